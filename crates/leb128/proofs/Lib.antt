@@ -1,0 +1,5 @@
+pub mod FieldLaws
+pub mod Leb128Laws
+pub mod PartLaws
+pub mod ReadLaws
+pub mod ToldLaws

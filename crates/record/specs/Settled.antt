@@ -1,0 +1,32 @@
+use mathlib.Core.Bool.{Bool, true, false}
+use Rattle.std.specs.declared.result.Result.{Result}
+use Rattle.std.specs.declared.result.Result.the-variants.{Ok, Err}
+use Rattle.leb128.specs.declared.fault.NumberCause.{NumberCause}
+use Rattle.leb128.specs.declared.fault.NumberCause.the-variants as num
+use Rattle.leb128.specs.declared.fault.NumberFault.{NumberFault}
+use Rattle.record.specs.declared.fault.RecordCause.{RecordCause}
+use Rattle.record.specs.declared.fault.RecordCause.the-variants as rec
+use Rattle.record.specs.declared.fault.RecordFault.{RecordFault}
+use Rattle.record.specs.declared.fault.RecordFault.the-variants.{Number, Own}
+
+-- A fault that more bytes do not mend: any but that the bytes end.
+abbrev pub lastCause : NumberCause → Bool
+lastCause num.Ends = false
+lastCause num.Large = true
+
+abbrev pub lastNumber : NumberFault → Bool
+lastNumber f = lastCause (f .cause)
+
+abbrev pub lastOwn : RecordCause → Bool
+lastOwn rec.Ends = false
+lastOwn rec.Name = true
+lastOwn rec.Kind = true
+
+abbrev pub lastRecord : RecordFault → Bool
+lastRecord (Number f) = lastNumber f
+lastRecord (Own c p) = lastOwn c
+
+-- Read, or a fault that more bytes do not mend.
+abbrev pub settled : {A E : Type 0} → (E → Bool) → Result A E → Bool
+settled last (Ok x) = true
+settled last (Err e) = last e
