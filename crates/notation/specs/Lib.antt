@@ -1,0 +1,4 @@
+pub mod Hex
+pub mod Numerals
+pub mod Sides
+pub mod Words
