@@ -46,19 +46,21 @@ uleb-step n h =
 -- A number's form is never empty.
 pub uleb-some : (n : ℕ) → 0 < length (uleb n)
 uleb-some n =
-    elim (cases-lt n 128)
-    [ inl h ↦ rw (uleb-small n h) (omega arith)
-    | inr h ↦ rw (uleb-step n h) (omega arith) ]
+    elim (cases-lt n 128) [
+      | inl h ↦ rw (uleb-small n h) (omega arith)
+      | inr h ↦ rw (uleb-step n h) (omega arith)
+    ]
 
 pub length-uleb : (k n : ℕ) → n < 128 * 128 ^ k → length (uleb n) ≤ k + 1
 length-uleb zero n h = rw (uleb-small n (omega arith)) (omega arith)
 length-uleb (suc k) n h =
-    elim (cases-lt n 128)
-    [ inl l ↦ rw (uleb-small n l) (omega arith)
-    | inr l ↦
-        let p : 128 ^ suc k ≡ 128 ^ k * 128 = pow-suc 128 k in
-        let r : length (uleb (n / 128)) ≤ k + 1 = length-uleb k (n / 128) (div-below n 128 (128 * 128 ^ k) (omega arith) (omega arith)) in
-        rw (uleb-step n l) (omega arith) ]
+    elim (cases-lt n 128) [
+      | inl l ↦ rw (uleb-small n l) (omega arith)
+      | inr l ↦
+          let p : 128 ^ suc k ≡ 128 ^ k * 128 = pow-suc 128 k in
+          let r : length (uleb (n / 128)) ≤ k + 1 = length-uleb k (n / 128) (div-below n 128 (128 * 128 ^ k) (omega arith) (omega arith)) in
+          rw (uleb-step n l) (omega arith)
+    ]
 
 -- at most ten bytes for 64 bits
 pub uleb-ten : (n : ℕ) → n < 2 ^ 64 → length (uleb n) ≤ 10
@@ -77,11 +79,12 @@ pub put-more : (part was : List ℕ) (n rest v : ℕ) → n < length part → 12
 put-more part was n rest v h l p =
     let y : ℕ = rest % 128 + 128 in
     let s : uleb rest ≡ y ∷ uleb (rest / 128) = uleb-step rest l in
-    let t : length (uleb rest) ≡ length (uleb (rest / 128)) + 1 = rw s (omega arith) in
-    ( ap (λ q. q ++ uleb (rest / 128)) (take-more-set part n y h)
-      ∙ (append-assoc (take n part) (y ∷ []) (uleb (rest / 128)) ∙ (ap (λ q. take n part ++ q) (sym s) ∙ p .0))
-    , omega (arith, p .1)
-    , drop-set-lt (n + 1) part n y (omega arith) ∙ drop-next n part was (p .2) )
+    let t : length (uleb rest) ≡ length (uleb (rest / 128)) + 1 = rw s (omega arith) in (
+      ap (λ q. q ++ uleb (rest / 128)) (take-more-set part n y h)
+          ∙ (append-assoc (take n part) (y ∷ []) (uleb (rest / 128)) ∙ (ap (λ q. take n part ++ q) (sym s) ∙ p .0)),
+      omega (arith, p .1),
+      drop-set-lt (n + 1) part n y (omega arith) ∙ drop-next n part was (p .2),
+    )
 
 pub put-last : (part was : List ℕ) (n rest v : ℕ) → n < length part → rest < 128 → Put part was n rest v
     → set part n rest ≡ uleb v ++ drop (length (uleb v)) was
@@ -101,16 +104,18 @@ form-cons b (x ∷ xs) p h = cond-false (ltb b 128) false (form (x ∷ xs)) (le-
 form-by : (f n : ℕ) → n ≤ f → form (uleb n) ≡ true
 form-by zero n h = rw (uleb-small n (omega arith)) (lt-ltb n 128 (omega arith))
 form-by (suc f) n h =
-    elim (cases-lt n 128)
-    [ inl l ↦ rw (uleb-small n l) (lt-ltb n 128 l)
-    | inr l ↦ rw (uleb-step n l) (form-cons (n % 128 + 128) (uleb (n / 128)) (uleb-some (n / 128)) (omega arith) ∙ form-by f (n / 128) (omega arith)) ]
+    elim (cases-lt n 128) [
+      | inl l ↦ rw (uleb-small n l) (lt-ltb n 128 l)
+      | inr l ↦ rw (uleb-step n l) (form-cons (n % 128 + 128) (uleb (n / 128)) (uleb-some (n / 128)) (omega arith) ∙ form-by f (n / 128) (omega arith))
+    ]
 
 sum-by : (f n : ℕ) → n ≤ f → sumOf (uleb n) ≡ n
 sum-by zero n h = rw (uleb-small n (omega arith)) (omega arith)
 sum-by (suc f) n h =
-    elim (cases-lt n 128)
-    [ inl l ↦ rw (uleb-small n l) (omega arith)
-    | inr l ↦ rw (uleb-step n l) (rw (sum-by f (n / 128) (omega arith)) (omega arith)) ]
+    elim (cases-lt n 128) [
+      | inl l ↦ rw (uleb-small n l) (omega arith)
+      | inr l ↦ rw (uleb-step n l) (rw (sum-by f (n / 128) (omega arith)) (omega arith))
+    ]
 
 -- The shortest form is a form, and it says the number.
 pub form-uleb : (n : ℕ) → form (uleb n) ≡ true

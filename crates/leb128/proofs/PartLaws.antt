@@ -23,7 +23,7 @@ put-then was part last a b n l e f =
     let t : take n part ≡ a = ap (take n) e ∙ take-at a (drop (length a) was) n (sym l) in
     let r : drop n part ≡ drop (length a) was = ap (drop n) e ∙ drop-at a (drop (length a) was) n (sym l) in
     let d : drop (n + length b) part ≡ drop (length (a ++ b)) was =
-        sym (drop-drop (length b) n part) ∙ (ap (drop (length b)) r ∙ (drop-drop (length b) (length a) was ∙ ap (λ q. drop q was) (sym (length-append a b)))) in
+    sym (drop-drop (length b) n part) ∙ (ap (drop (length b)) r ∙ (drop-drop (length b) (length a) was ∙ ap (λ q. drop q was) (sym (length-append a b)))) in
     put-written part last b n f
     ∙ (ap (λ q. q ++ (b ++ drop (n + length b) part)) t ∙ (ap (λ q. a ++ (b ++ q)) d ∙ sym (append-assoc a b (drop (length (a ++ b)) was))))
 

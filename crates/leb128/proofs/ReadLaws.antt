@@ -75,9 +75,10 @@ weigh w d s = mul-add w d (128 * s) ∙ (ap (λ q. q + w * (128 * s)) (mul-comm 
 
 pub goes-on : (b : ℕ) (t : Bool) → cond (ltb b 128) false t ≡ true → (128 ≤ b) × (t ≡ true)
 goes-on b t e =
-    elim (cases-lt b 128)
-    [ inl h ↦ let z = sym (cond-true (ltb b 128) false t (lt-ltb b 128 h)) ∙ e in absurd (both-ways false refl z)
-    | inr h ↦ (h, sym (cond-false (ltb b 128) false t (le-ltb b 128 h)) ∙ e) ]
+    elim (cases-lt b 128) [
+      | inl h ↦ let z = sym (cond-true (ltb b 128) false t (lt-ltb b 128 h)) ∙ e in absurd (both-ways false refl z)
+      | inr h ↦ (h, sym (cond-false (ltb b 128) false t (le-ltb b 128 h)) ∙ e)
+    ]
 
 from-form : (most limit k v : ℕ) (p rest : List ℕ) → form p ≡ true → k + length p ≤ most → v + 128 ^ k * sumOf p < limit
     → readFrom most limit k v (p ++ rest) ≡ done (v + 128 ^ k * sumOf p) (k + length p)
@@ -90,7 +91,7 @@ from-form most limit k v (b ∷ c ∷ bs) rest f l h =
     let s : ℕ = sumOf (c ∷ bs) in
     let d : ℕ = b % 128 in
     let e : v + 128 ^ k * (d + 128 * s) ≡ (v + d * 128 ^ k) + 128 ^ (k + 1) * s =
-        ap (λ q. v + q) (weigh (128 ^ k) d s) ∙ (sym (add-assoc v (d * 128 ^ k) ((128 ^ k * 128) * s)) ∙ rw (add-one, pow-suc) refl) in
+    ap (λ q. v + q) (weigh (128 ^ k) d s) ∙ (sym (add-assoc v (d * 128 ^ k) ((128 ^ k * 128) * s)) ∙ rw (add-one, pow-suc) refl) in
     let m : (128 ≤ b) × (form (c ∷ bs) ≡ true) = goes-on b (form (c ∷ bs)) f in
     at-more most limit k v b (c ∷ (bs ++ rest)) (omega arith) (m .0) (omega arith)
     ∙ (from-form most limit (k + 1) (v + d * 128 ^ k) (c ∷ bs) rest (m .1) (omega arith) (omega arith)

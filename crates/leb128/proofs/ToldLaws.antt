@@ -59,20 +59,23 @@ told-from most limit k v p (b ∷ bs) g l s m h =
     let e : sumOf (p ++ (b ∷ [])) ≡ v + (b % 128) * 128 ^ k = sum-push p b ∙ (ap (λ q. q + (b % 128) * 128 ^ length p) s ∙ ap (λ q. v + (b % 128) * 128 ^ q) l) in
     let a : (p ++ (b ∷ [])) ++ bs ≡ p ++ (b ∷ bs) = append-assoc p (b ∷ []) bs in
     let n : length (p ++ (b ∷ [])) ≡ k + 1 = length-push p b ∙ ap (λ q. q + 1) l in
-    elim (cases-lt w limit)
-    [ inl x ↦
-        elim (cases-lt b 128)
-        [ inl y ↦ subst (Reads most limit (p ++ (b ∷ bs))) (sym (at-last most limit k v b bs x y))
-            (p ++ (b ∷ []), bs, sym a, form-push p b g y, n, e, omega arith, x)
-        | inr y ↦
-            elim (cases-eq (k + 1) most)
-            [ inl z ↦ subst (Reads most limit (p ++ (b ∷ bs))) (sym (at-most most limit k v b bs x y z))
-                (p, b, bs, refl, g, omega arith, omega arith, inr (y, omega arith))
-            | inr z ↦ subst (Reads most limit (p ++ (b ∷ bs))) (sym (at-more most limit k v b bs x y (below k most m z)))
-                (subst (λ q. Reads most limit q (readFrom most limit (k + 1) w bs)) a
-                (told-from most limit (k + 1) w (p ++ (b ∷ [])) bs (goes-push p b g y) n e (below k most m z) x)) ] ]
-    | inr x ↦ subst (Reads most limit (p ++ (b ∷ bs))) (sym (at-large most limit k v b bs x))
-        (p, b, bs, refl, g, omega arith, omega arith, inl (omega (arith, e))) ]
+    elim (cases-lt w limit) [
+      | inl x ↦
+          elim (cases-lt b 128) [
+            | inl y ↦ subst (Reads most limit (p ++ (b ∷ bs))) (sym (at-last most limit k v b bs x y))
+                (p ++ (b ∷ []), bs, sym a, form-push p b g y, n, e, omega arith, x)
+            | inr y ↦
+                elim (cases-eq (k + 1) most) [
+                  | inl z ↦ subst (Reads most limit (p ++ (b ∷ bs))) (sym (at-most most limit k v b bs x y z))
+                      (p, b, bs, refl, g, omega arith, omega arith, inr (y, omega arith))
+                  | inr z ↦ subst (Reads most limit (p ++ (b ∷ bs))) (sym (at-more most limit k v b bs x y (below k most m z)))
+                      (subst (λ q. Reads most limit q (readFrom most limit (k + 1) w bs)) a
+                      (told-from most limit (k + 1) w (p ++ (b ∷ [])) bs (goes-push p b g y) n e (below k most m z) x))
+                ]
+          ]
+      | inr x ↦ subst (Reads most limit (p ++ (b ∷ bs))) (sym (at-large most limit k v b bs x))
+          (p, b, bs, refl, g, omega arith, omega arith, inl (omega (arith, e)))
+    ]
 
 pub told : (most limit : ℕ) (bs : List ℕ) → 0 < most → 0 < limit → Reads most limit bs (reading most limit bs)
 told most limit bs m h = told-from most limit 0 0 [] bs refl refl refl m h
@@ -89,7 +92,7 @@ pass most limit k v (b ∷ p) q g m h =
     let d : ℕ = b % 128 in
     let s : ℕ = sumOf p in
     let e : v + 128 ^ k * (d + 128 * s) ≡ (v + d * 128 ^ k) + 128 ^ (k + 1) * s =
-        ap (λ x. v + x) (weigh (128 ^ k) d s) ∙ (sym (add-assoc v (d * 128 ^ k) ((128 ^ k * 128) * s)) ∙ rw (add-one, pow-suc) refl) in
+    ap (λ x. v + x) (weigh (128 ^ k) d s) ∙ (sym (add-assoc v (d * 128 ^ k) ((128 ^ k * 128) * s)) ∙ rw (add-one, pow-suc) refl) in
     let n : k + 1 + length p ≡ k + length (b ∷ p) = omega arith in
     at-more most limit k v b (p ++ q) (omega arith) (o .0) (omega arith)
     ∙ (pass most limit (k + 1) (v + d * 128 ^ k) p q (o .1) (omega arith) (omega arith)
@@ -112,8 +115,10 @@ only most limit bs large t =
     let p : List ℕ = t .0 in
     let b : ℕ = t .1 in
     ap (reading most limit) (t .3) ∙ (from-start most limit p (b ∷ t .2) (t .4) (t .5) (t .6)
-    ∙ elim (t .7)
-      [ inl x ↦ at-large most limit (length p) (sumOf p) b (t .2) (omega (arith, sum-push p b))
-      | inr x ↦ elim (cases-lt (sumOf p + (b % 128) * 128 ^ length p) limit)
-          [ inl y ↦ at-most most limit (length p) (sumOf p) b (t .2) y (x .0) (x .1)
-          | inr y ↦ at-large most limit (length p) (sumOf p) b (t .2) y ] ])
+    ∙ elim (t .7) [
+      | inl x ↦ at-large most limit (length p) (sumOf p) b (t .2) (omega (arith, sum-push p b))
+      | inr x ↦ elim (cases-lt (sumOf p + (b % 128) * 128 ^ length p) limit) [
+        | inl y ↦ at-most most limit (length p) (sumOf p) b (t .2) y (x .0) (x .1)
+        | inr y ↦ at-large most limit (length p) (sumOf p) b (t .2) y
+      ]
+    ])

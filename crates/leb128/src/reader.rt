@@ -35,13 +35,21 @@ fn take_byte(value: u64, weight: u64, b: u8, last: bool, below: u64) -> Step
 }
 
 /// Reads a number of at most `most` bytes, below a limit, from a place on.
-fn read_within(bytes: &[u8], at: usize, most: usize, below: u64) -> Result<(u64, usize), NumberFault>
+fn read_within(
+    bytes: &[u8],
+    at: usize,
+    most: usize,
+    below: u64,
+) -> Result<(u64, usize), NumberFault>
     requires { ⌜ 0 < most ⌝ ∗ ⌜ most ≤ 10 ⌝ ∗ ⌜ 0 < below ⌝ }
     ensures value { λ r. ⌜ r ≡ answer at (reading most below (drop at (now (bytes .entry)))) ⌝ }
     ensures within { λ r. ⌜ made r (λ p. (at + p .1 ≤ length (now (bytes .entry))) × (p .0 < below)) ⌝ }
 {
     if at > bytes.len() {
-        return Err(NumberFault { cause: NumberCause::Ends, offset: at });
+        return Err(NumberFault {
+            cause: NumberCause::Ends,
+            offset: at,
+        });
     }
     let mut value = 0u64;
     let mut weight = 1u64;
@@ -49,7 +57,10 @@ fn read_within(bytes: &[u8], at: usize, most: usize, below: u64) -> Result<(u64,
     while count < bytes.len() - at {
         match take_byte(value, weight, bytes[at + count], count + 1 == most, below) {
             Step::Done(v) => return Ok((v, count + 1)),
-            Step::Large => return Err(NumberFault { cause: NumberCause::Large, offset: at }),
+            Step::Large => return Err(NumberFault {
+                cause: NumberCause::Large,
+                offset: at,
+            }),
             Step::More(v) => {
                 value = v;
                 weight *= 128;
@@ -57,7 +68,10 @@ fn read_within(bytes: &[u8], at: usize, most: usize, below: u64) -> Result<(u64,
             }
         }
     }
-    Err(NumberFault { cause: NumberCause::Ends, offset: at })
+    Err(NumberFault {
+        cause: NumberCause::Ends,
+        offset: at,
+    })
 }
 
 /// Reads a number from a place on, within what its field allows: its value, and how many bytes it took.

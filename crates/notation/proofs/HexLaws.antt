@@ -30,19 +30,21 @@ decimal-back n h =
 capital-back : (n : ℕ) → 10 ≤ n → n < 16 → (isHexDigit (0x37 + n) ≡ true) × (nibble (0x37 + n) ≡ n)
 capital-back n h l =
     let d : isDecimal (0x37 + n) ≡ false = and-right (leb 0x30 (0x37 + n)) (leb (0x37 + n) 0x39) (lt-leb (0x37 + n) 0x39 (omega arith)) in
-    let u : isCapital (0x37 + n) ≡ true = and-from (leb 0x41 (0x37 + n)) (leb (0x37 + n) 0x46) (le-leb 0x41 (0x37 + n) (omega arith)) (le-leb (0x37 + n) 0x46 (omega arith)) in
-    ( or-right (isDecimal (0x37 + n)) _ (or-left (isCapital (0x37 + n)) _ u)
-    , cond-false (isDecimal (0x37 + n)) _ _ d ∙ (cond-true (isCapital (0x37 + n)) _ _ u ∙ omega arith) )
+    let u : isCapital (0x37 + n) ≡ true = and-from (leb 0x41 (0x37 + n)) (leb (0x37 + n) 0x46) (le-leb 0x41 (0x37 + n) (omega arith)) (le-leb (0x37 + n) 0x46 (omega arith)) in (
+      or-right (isDecimal (0x37 + n)) _ (or-left (isCapital (0x37 + n)) _ u),
+      cond-false (isDecimal (0x37 + n)) _ _ d ∙ (cond-true (isCapital (0x37 + n)) _ _ u ∙ omega arith),
+    )
 
 digit-back : (n : ℕ) → n < 16 → (isHexDigit (digitOf n) ≡ true) × (nibble (digitOf n) ≡ n)
 digit-back n h =
-    elim (cases-lt n 10)
-    [ inl l ↦
-        let e = cond-true (ltb n 10) (0x30 + n) (0x37 + n) (lt-ltb n 10 l) in
-        (ap isHexDigit e ∙ decimal-back n l .0, ap nibble e ∙ decimal-back n l .1)
-    | inr l ↦
-        let e = cond-false (ltb n 10) (0x30 + n) (0x37 + n) (le-ltb n 10 l) in
-        (ap isHexDigit e ∙ capital-back n l h .0, ap nibble e ∙ capital-back n l h .1) ]
+    elim (cases-lt n 10) [
+      | inl l ↦
+          let e = cond-true (ltb n 10) (0x30 + n) (0x37 + n) (lt-ltb n 10 l) in
+          (ap isHexDigit e ∙ decimal-back n l .0, ap nibble e ∙ decimal-back n l .1)
+      | inr l ↦
+          let e = cond-false (ltb n 10) (0x30 + n) (0x37 + n) (le-ltb n 10 l) in
+          (ap isHexDigit e ∙ capital-back n l h .0, ap nibble e ∙ capital-back n l h .1)
+    ]
 
 -- Bytes as digits are pairs of digits, and say those bytes.
 pub hex-back : (bs : List ℕ) → ((i : ℕ) → getD bs i 0 < 256) → (isHex (hexOf bs) ≡ true) × (bytesIn (hexOf bs) ≡ bs)
@@ -52,9 +54,10 @@ hex-back (b ∷ bs) h =
     let hi = digit-back (b / 16) (omega arith) in
     let lo = digit-back (b % 16) (omega arith) in
     let rest = hex-back bs (λ i. h (suc i)) in
-    let whole : nibble (digitOf (b / 16)) * 16 + nibble (digitOf (b % 16)) ≡ b = omega (arith, hi .1, lo .1) in
-    ( and-from _ _ (and-from (isHexDigit (digitOf (b / 16))) (isHexDigit (digitOf (b % 16))) (hi .0) (lo .0)) (rest .0)
-    , ap (λ q. q ∷ bytesIn (hexOf bs)) whole ∙ ap (λ q. b ∷ q) (rest .1) )
+    let whole : nibble (digitOf (b / 16)) * 16 + nibble (digitOf (b % 16)) ≡ b = omega (arith, hi .1, lo .1) in (
+      and-from _ _ (and-from (isHexDigit (digitOf (b / 16))) (isHexDigit (digitOf (b % 16))) (hi .0) (lo .0)) (rest .0),
+      ap (λ q. q ∷ bytesIn (hexOf bs)) whole ∙ ap (λ q. b ∷ q) (rest .1),
+    )
 
 -- One byte more.
 hex-push : (xs : List ℕ) (b : ℕ) → hexOf (xs ++ b ∷ []) ≡ hexOf xs ++ (digitOf (b / 16) ∷ digitOf (b % 16) ∷ [])

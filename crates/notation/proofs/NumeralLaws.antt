@@ -37,4 +37,4 @@ pub number-read : (w : List ℕ) (v : ℕ) → 0 < length w → allDigits w ≡ 
 number-read w v l e s h =
     ap Some s
     ∙ sym (cond-true ((ltb 0 (length w) && allDigits w) && ltb (valueFrom 0 w) (2 ^ 64)) _ _
-      (and-from _ _ (and-from (ltb 0 (length w)) (allDigits w) (lt-ltb 0 (length w) l) e) (lt-ltb (valueFrom 0 w) (2 ^ 64) (omega arith))))
+    (and-from _ _ (and-from (ltb 0 (length w)) (allDigits w) (lt-ltb 0 (length w) l) e) (lt-ltb (valueFrom 0 w) (2 ^ 64) (omega arith))))

@@ -15,6 +15,7 @@ word-parts line a n e u =
     let T : List ℕ = take (length line - a) (drop a line) in
     let t : T ≡ trimmed line = take-rest line a ∙ ap (λ k. drop k line) e in
     let z : n - 0 ≡ n = omega arith in
-    let m : n ≡ upTo 0x20 (trimmed line) = u ∙ ap (upTo 0x20) t in
-    ( ap (λ k. take k T) z ∙ (ap (take n) t ∙ ap (λ k. take k (trimmed line)) m)
-    , take-rest T n ∙ (ap (drop n) t ∙ ap (λ k. drop k (trimmed line)) m) )
+    let m : n ≡ upTo 0x20 (trimmed line) = u ∙ ap (upTo 0x20) t in (
+      ap (λ k. take k T) z ∙ (ap (take n) t ∙ ap (λ k. take k (trimmed line)) m),
+      take-rest T n ∙ (ap (drop n) t ∙ ap (λ k. drop k (trimmed line)) m),
+    )

@@ -20,7 +20,11 @@ fn read_clock(word: &[u8]) -> Option<u32>
     ensures { λ r. ⌜ r ≡ clockIn (now (word .entry)) ⌝ }
 {
     let clock = read_number(word)?;
-    if clock < 0x1_0000_0000 { Some(clock as u32) } else { None }
+    if clock < 0x1_0000_0000 {
+        Some(clock as u32)
+    } else {
+        None
+    }
 }
 
 /// The id that a word `CLIENT:CLOCK` says.
@@ -61,9 +65,15 @@ pub fn read_side<'a>(word: &'a [u8]) -> Option<StickyIndex<'a>>
     }
     let rest = &word[1..];
     if word[0] == b'-' {
-        Some(StickyIndex { scope: read_scope(rest)?, assoc: Assoc::Before })
+        Some(StickyIndex {
+            scope: read_scope(rest)?,
+            assoc: Assoc::Before,
+        })
     } else if word[0] == b'+' {
-        Some(StickyIndex { scope: read_scope(rest)?, assoc: Assoc::After })
+        Some(StickyIndex {
+            scope: read_scope(rest)?,
+            assoc: Assoc::After,
+        })
     } else {
         None
     }
@@ -104,7 +114,11 @@ fn push_side(heap: Global, text: &mut Vec<u8>, side: StickyIndex<'_>) -> Result<
 }
 
 /// Appends a source to a text: its start, a blank, its end.
-pub fn push_source(heap: Global, text: &mut Vec<u8>, source: &LinkSource<'_>) -> Result<(), AllocError>
+pub fn push_source(
+    heap: Global,
+    text: &mut Vec<u8>,
+    source: &LinkSource<'_>,
+) -> Result<(), AllocError>
     ensures { λ r. ⌜ made r (λ _. vec-items (now (text .exit)) ≡ vec-items (now (text .entry)) ++ sourceText (startOf (now (source .entry))) (endOf (now (source .entry)))) ⌝ }
 {
     push_side(heap, text, source.start())?;

@@ -4,6 +4,7 @@ ghost use Prim.Native.Nat.{_≤_};
 ghost use lib.Dec.{eqb};
 ghost use lib.ListN.{length};
 ghost use Rattle.std.specs.shelf.Lists.{leading};
+ghost use Rattle.std.specs.shelf.Text.{sameBytes};
 ghost use Rattle.notation.specs.Words.{isBlank, upTo, firstWord, afterWord};
 
 /// How many blanks a line begins with.
@@ -37,4 +38,11 @@ pub fn next_word<'a>(line: &'a [u8]) -> (&'a [u8], &'a [u8])
     let rest = &line[count_blanks(line)..];
     let n = find_byte(rest, b' ');
     (&rest[0..n], &rest[n..])
+}
+
+/// Whether a word is just these bytes.
+pub fn is_word(word: &[u8], bytes: &[u8]) -> bool
+    ensures { λ r. ⌜ r ≡ sameBytes (now (word .entry)) (now (bytes .entry)) ⌝ }
+{
+    word == bytes
 }

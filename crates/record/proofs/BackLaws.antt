@@ -101,13 +101,14 @@ flag-told a b c d g h =
     let q4 : f / 4 ≡ bit 1 c + 2 * (bit 1 d + 2 * bit 1 g + 4 * bit 1 h) = omega arith in
     let q8 : f / 8 ≡ bit 1 d + 2 * (bit 1 g + 2 * bit 1 h) = omega arith in
     let q16 : f / 16 ≡ bit 1 g + 2 * bit 1 h = omega arith in
-    let q32 : f / 32 ≡ bit 1 h = omega arith in
-    ( bit-told a (f / 1 % 2) (ap (λ q. q % 2) q1 ∙ low (bit 1 a) _ (ia .1))
-    , bit-told b (f / 2 % 2) (ap (λ q. q % 2) q2 ∙ low (bit 1 b) _ (ib .1))
-    , bit-told c (f / 4 % 2) (ap (λ q. q % 2) q4 ∙ low (bit 1 c) _ (ic .1))
-    , bit-told d (f / 8 % 2) (ap (λ q. q % 2) q8 ∙ low (bit 1 d) _ (id .1))
-    , bit-told g (f / 16 % 2) (ap (λ q. q % 2) q16 ∙ low (bit 1 g) _ (ig .1))
-    , bit-told h (f / 32 % 2) (ap (λ q. q % 2) q32 ∙ omega arith) )
+    let q32 : f / 32 ≡ bit 1 h = omega arith in (
+      bit-told a (f / 1 % 2) (ap (λ q. q % 2) q1 ∙ low (bit 1 a) _ (ia .1)),
+      bit-told b (f / 2 % 2) (ap (λ q. q % 2) q2 ∙ low (bit 1 b) _ (ib .1)),
+      bit-told c (f / 4 % 2) (ap (λ q. q % 2) q4 ∙ low (bit 1 c) _ (ic .1)),
+      bit-told d (f / 8 % 2) (ap (λ q. q % 2) q8 ∙ low (bit 1 d) _ (id .1)),
+      bit-told g (f / 16 % 2) (ap (λ q. q % 2) q16 ∙ low (bit 1 g) _ (ig .1)),
+      bit-told h (f / 32 % 2) (ap (λ q. q % 2) q32 ∙ omega arith),
+    )
 
 pub own : (s e : Side) → alike (s .0) (e .0) ≡ true → Fine (s .0) → Fine (e .0) → RecordForm (recordOf s e) s e
 own s e a f g =
@@ -115,16 +116,20 @@ own s e a f g =
     let x : Bool = single (s .0) (e .0) in
     let w = ways (s .0) (e .0) a in
     let m = flag-told (not x) (s .1) (e .1) (isOpen (s .0)) (isOpen (e .0)) t in
-    let E : List ℕ = endBytes x (e .0) in
-    ( flags s e, scopeBytes (s .0), E, refl
-    , sym (m .3)
-    , subst (λ q. Way q (s .0)) (sym (m .5)) (w .0)
-    , scope-own (s .0) f
-    , sym (m .1)
-    , subst (λ q. EndForm q (hasFlag 1 (flags s e)) (hasFlag 32 (flags s e)) E (s .0) (e .0)) (sym (m .4))
-      (subst (λ q. EndForm (isOpen (e .0)) q (hasFlag 32 (flags s e)) E (s .0) (e .0)) (sym (m .0))
-      (subst (λ q. EndForm (isOpen (e .0)) (not x) q E (s .0) (e .0)) (sym (m .5)) (end-own (s .0) (e .0) t g (w .1))))
-    , sym (m .2) )
+    let E : List ℕ = endBytes x (e .0) in (
+      flags s e,
+      scopeBytes (s .0),
+      E,
+      refl,
+      sym (m .3),
+      subst (λ q. Way q (s .0)) (sym (m .5)) (w .0),
+      scope-own (s .0) f,
+      sym (m .1),
+      subst (λ q. EndForm q (hasFlag 1 (flags s e)) (hasFlag 32 (flags s e)) E (s .0) (e .0)) (sym (m .4))
+          (subst (λ q. EndForm (isOpen (e .0)) q (hasFlag 32 (flags s e)) E (s .0) (e .0)) (sym (m .0))
+          (subst (λ q. EndForm (isOpen (e .0)) (not x) q E (s .0) (e .0)) (sym (m .5)) (end-own (s .0) (e .0) t g (w .1)))),
+      sym (m .2),
+    )
 
 -- The reader gives back what the writer wrote, whatever stands after it.
 record-back : (s e : Side) (rest : List ℕ) → alike (s .0) (e .0) ≡ true → Fine (s .0) → Fine (e .0)
@@ -136,5 +141,5 @@ pub written-back : (buf out : List ℕ) (s e : Side) (p n : ℕ) → p ≤ lengt
     → decode (drop p out) ≡ Ok ((s, e), n)
 written-back buf out s e p n h w m a f g =
     let d : drop p out ≡ recordOf s e ++ drop (p + length (recordOf s e)) buf =
-        ap (drop p) w ∙ drop-at (take p buf) (recordOf s e ++ drop (p + length (recordOf s e)) buf) p (length-take-le p buf h) in
+    ap (drop p) w ∙ drop-at (take p buf) (recordOf s e ++ drop (p + length (recordOf s e)) buf) p (length-take-le p buf h) in
     ap decode d ∙ (record-back s e (drop (p + length (recordOf s e)) buf) a f g ∙ ap (λ q. Ok ((s, e), q)) (sym m))

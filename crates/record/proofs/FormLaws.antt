@@ -82,9 +82,9 @@ complete r rest s e g =
     let d1 : drop 2 bs ≡ a ++ (b ++ rest) = append-assoc a b rest in
     let d2 : drop (2 + length a) bs ≡ b ++ rest = past bs a (b ++ rest) 2 d1 in
     let e1 : scopeAt (hasFlag 8 f) (hasFlag 32 f) bs 2 ≡ Ok (s .0, 2 + length a) =
-        ap (λ q. scopeAt q (hasFlag 32 f) bs 2) (sym (g .4)) ∙ scope-in bs a (b ++ rest) 2 (s .0) (hasFlag 32 f) d1 (g .6) (g .5) in
+    ap (λ q. scopeAt q (hasFlag 32 f) bs 2) (sym (g .4)) ∙ scope-in bs a (b ++ rest) 2 (s .0) (hasFlag 32 f) d1 (g .6) (g .5) in
     let e2 : endAt f bs (s .0, 2 + length a) ≡ Ok (e .0, 2 + length a + length b) =
-        end-in (hasFlag 16 f) (hasFlag 1 f) (hasFlag 32 f) bs b rest (2 + length a) (s .0) (e .0) d2 (g .8) in
+    end-in (hasFlag 16 f) (hasFlag 1 f) (hasFlag 32 f) bs b rest (2 + length a) (s .0) (e .0) d2 (g .8) in
     let n : 2 + length a + length b ≡ length r = omega (arith, length-append a b, ap length (g .3)) in
     ap (λ q. decode (q ++ rest)) (g .3)
     ∙ (ap (λ q. then q (λ x. then (endAt f bs x) (λ y. Ok (((x .0, hasFlag 2 f), (y .0, hasFlag 4 f)), y .1)))) e1

@@ -79,12 +79,13 @@ id-out bs p n i e =
     let u = number-out Client bs p (c .0) (c .1) (x .1) in
     let w = number-out Clock bs (p + c .1) (k .0) (k .1) (y .1) in
     let a : List ℕ = u .0 in
-    let b : List ℕ = w .0 in
-    ( a ++ b
-    , w .1
-    , joined bs a b (w .1) (u .1) p (p + c .1) (u .2) (u .4) (w .2)
-    , subst (λ q. IdForm (a ++ b) (q .0) (q .1)) (ap (λ z. z .0) s) (a, b, refl, u .3, w .3)
-    , omega (arith, length-append a b, u .4, w .4, ap (λ z. z .1) s) )
+    let b : List ℕ = w .0 in (
+      a ++ b,
+      w .1,
+      joined bs a b (w .1) (u .1) p (p + c .1) (u .2) (u .4) (w .2),
+      subst (λ q. IdForm (a ++ b) (q .0) (q .1)) (ap (λ z. z .0) s) (a, b, refl, u .3, w .3),
+      omega (arith, length-append a b, u .4, w .4, ap (λ z. z .1) s),
+    )
 
 cond-ok : {A E : Type 0} (t : Bool) (x : Result A E) (z : E) (y : A) → cond t x (Err z) ≡ Ok y → (t ≡ true) × (x ≡ Ok y)
 cond-ok true x z y e = (refl, e)
@@ -105,15 +106,16 @@ name-out bs p y e =
     let m : List ℕ = take (c .0) (drop q bs) in
     let l : length m ≡ c .0 = length-take-le (c .0) (drop q bs) (name-within (c .0) (drop q bs) (h .0)) in
     let fine : nameFine m ≡ true =
-        and-from (nameCount (length m)) (allPrintable m) (ap nameCount l ∙ g .0) (name-printable (c .0) (drop q bs) (h .0)) in
+    and-from (nameCount (length m)) (allPrintable m) (ap nameCount l ∙ g .0) (name-printable (c .0) (drop q bs) (h .0)) in
     let a : List ℕ = u .0 in
     let rest : List ℕ = drop (c .0) (drop q bs) in
-    let num : NumberForm Count a (length m) = subst (NumberForm Count a) (sym l) (u .3) in
-    ( a ++ m
-    , rest
-    , joined bs a m rest (u .1) p q (u .2) (u .4) (sym (take-append-drop (c .0) (drop q bs)))
-    , subst (λ z. NameForm (a ++ m) z) (ap (λ z. z .0) (h .1)) (a, refl, num, fine)
-    , omega (arith, length-append a m, u .4, l, ap (λ z. z .1) (h .1)) )
+    let num : NumberForm Count a (length m) = subst (NumberForm Count a) (sym l) (u .3) in (
+      a ++ m,
+      rest,
+      joined bs a m rest (u .1) p q (u .2) (u .4) (sym (take-append-drop (c .0) (drop q bs))),
+      subst (λ z. NameForm (a ++ m) z) (ap (λ z. z .0) (h .1)) (a, refl, num, fine),
+      omega (arith, length-append a m, u .4, l, ap (λ z. z .1) (h .1)),
+    )
 
 abbrev pub ScopeFront : (bs : List ℕ) (p : ℕ) (o t : Bool) → Scope × ℕ → Type 0
 ScopeFront bs p o t y = (isOpen (y .0) ≡ o) × Way t (y .0) × Front bs p (y .1) (λ r. ScopeForm r (y .0))
@@ -162,12 +164,13 @@ fields-out f tail s e n g =
     let b : List ℕ = w .0 in
     let j : tail ≡ (a ++ b) ++ w .1 = joined bs a b (w .1) (u .2 .1) 2 (S .1) (u .2 .2) (u .2 .4) (w .2) in
     let form : RecordForm (7 ∷ f ∷ (a ++ b)) (S .0, hasFlag 2 f) (E .0, hasFlag 4 f) =
-        (f, a, b, refl, u .0, u .1, u .2 .3, refl, w .3, refl) in
-    ( 7 ∷ f ∷ (a ++ b)
-    , w .1
-    , ap (λ q. 7 ∷ f ∷ q) j
-    , subst (λ q. RecordForm (7 ∷ f ∷ (a ++ b)) (q .0) (q .1)) (ap (λ q. q .0) z) form
-    , omega (arith, length-append a b, u .2 .4, w .4, ap (λ q. q .1) z) )
+    (f, a, b, refl, u .0, u .1, u .2 .3, refl, w .3, refl) in (
+      7 ∷ f ∷ (a ++ b),
+      w .1,
+      ap (λ q. 7 ∷ f ∷ q) j,
+      subst (λ q. RecordForm (7 ∷ f ∷ (a ++ b)) (q .0) (q .1)) (ap (λ q. q .0) z) form,
+      omega (arith, length-append a b, u .2 .4, w .4, ap (λ q. q .1) z),
+    )
 
 lone : {A E : Type 0} (t : Bool) (x y : E) (z : A) → _≡_ {A = Result A E} (cond t (Err x) (Err y)) (Ok z) → ⊥
 lone true x y z e = not-err x z e

@@ -66,10 +66,10 @@ id-stays bs more p l s =
     then-stays lastNumber (numberAt Client bs p) (numberAt Client (bs ++ more) p) _ _ s
     (number-stays Client bs more p l)
     (λ c e t.
-        let w : p + c .1 ≤ length bs = front-within bs p (p + c .1) (λ a. NumberForm Client a (c .0)) l (number-out Client bs p (c .0) (c .1) e) in
-        then-stays lastNumber (numberAt Clock bs (p + c .1)) (numberAt Clock (bs ++ more) (p + c .1)) _ _ t
-        (number-stays Clock bs more (p + c .1) w)
-        (λ k x y. refl))
+    let w : p + c .1 ≤ length bs = front-within bs p (p + c .1) (λ a. NumberForm Client a (c .0)) l (number-out Client bs p (c .0) (c .1) e) in
+    then-stays lastNumber (numberAt Clock bs (p + c .1)) (numberAt Clock (bs ++ more) (p + c .1)) _ _ t
+    (number-stays Clock bs more (p + c .1) w)
+    (λ k x y. refl))
 
 abbrev isLast : Option RecordCause → Bool
 isLast None = true
@@ -104,13 +104,13 @@ name-stays bs more p l s =
     then-stays lastRecord (lifted (numberAt Count bs p)) (lifted (numberAt Count (bs ++ more) p)) (named bs p) (named (bs ++ more) p) s
     (λ t. ap lifted (number-stays Count bs more p l (lifted-settled (numberAt Count bs p) t)))
     (λ c e t.
-        let q : ℕ = p + c .1 in
-        let w : q ≤ length bs = front-within bs p (p + c .1) (λ a. NumberForm Count a (c .0)) l (number-out Count bs p (c .0) (c .1) (lifted-ok (numberAt Count bs p) c e)) in
-        either (nameCount (c .0)) (nameHere bs p q (c .0) (nameFault (c .0) (drop q bs))) (nameHere (bs ++ more) p q (c .0) (nameFault (c .0) (drop q (bs ++ more)))) (Own rec.Name p) t
-        (λ u.
-            let o : nameFault (c .0) (drop q (bs ++ more)) ≡ nameFault (c .0) (drop q bs) =
-                ap (nameFault (c .0)) (drop-append-le q bs more w) ∙ fault-stays (c .0) (drop q bs) more (here-last bs p q (c .0) (nameFault (c .0) (drop q bs)) u) in
-            ap (nameHere (bs ++ more) p q (c .0)) o ∙ here-stays bs more p q (c .0) (nameFault (c .0) (drop q bs)) w (name-within (c .0) (drop q bs))))
+    let q : ℕ = p + c .1 in
+    let w : q ≤ length bs = front-within bs p (p + c .1) (λ a. NumberForm Count a (c .0)) l (number-out Count bs p (c .0) (c .1) (lifted-ok (numberAt Count bs p) c e)) in
+    either (nameCount (c .0)) (nameHere bs p q (c .0) (nameFault (c .0) (drop q bs))) (nameHere (bs ++ more) p q (c .0) (nameFault (c .0) (drop q (bs ++ more)))) (Own rec.Name p) t
+    (λ u.
+    let o : nameFault (c .0) (drop q (bs ++ more)) ≡ nameFault (c .0) (drop q bs) =
+    ap (nameFault (c .0)) (drop-append-le q bs more w) ∙ fault-stays (c .0) (drop q bs) more (here-last bs p q (c .0) (nameFault (c .0) (drop q bs)) u) in
+    ap (nameHere (bs ++ more) p q (c .0)) o ∙ here-stays bs more p q (c .0) (nameFault (c .0) (drop q bs)) w (name-within (c .0) (drop q bs))))
 
 scope-stays : (o t : Bool) (bs more : List ℕ) (p : ℕ) → p ≤ length bs → settled lastRecord (scopeAt o t bs p) ≡ true → scopeAt o t (bs ++ more) p ≡ scopeAt o t bs p
 scope-stays false t bs more p l s =
@@ -132,10 +132,10 @@ fields-stay f bs more l s =
     then-stays lastRecord (scopeAt (hasFlag 8 f) (hasFlag 32 f) bs 2) (scopeAt (hasFlag 8 f) (hasFlag 32 f) (bs ++ more) 2) _ _ s
     (scope-stays (hasFlag 8 f) (hasFlag 32 f) bs more 2 l)
     (λ a e t.
-        let w : a .1 ≤ length bs = front-within bs 2 (a .1) _ l (scope-out (hasFlag 8 f) (hasFlag 32 f) bs 2 a e .2) in
-        then-stays lastRecord (endAt f bs a) (endAt f (bs ++ more) a) _ _ t
-        (end-stays (hasFlag 16 f) (hasFlag 1 f) (hasFlag 32 f) bs more (a .1) (a .0) w)
-        (λ b x y. refl))
+    let w : a .1 ≤ length bs = front-within bs 2 (a .1) _ l (scope-out (hasFlag 8 f) (hasFlag 32 f) bs 2 a e .2) in
+    then-stays lastRecord (endAt f bs a) (endAt f (bs ++ more) a) _ _ t
+    (end-stays (hasFlag 16 f) (hasFlag 1 f) (hasFlag 32 f) bs more (a .1) (a .0) w)
+    (λ b x y. refl))
 
 swap : (t : Bool) (x : Result ((Side × Side) × ℕ) RecordFault) → settled {A = (Side × Side) × ℕ} lastRecord (cond t (Err (Own rec.Ends 1)) (Err (Own rec.Kind 0))) ≡ true
     → cond t x (Err (Own rec.Kind 0)) ≡ cond t (Err (Own rec.Ends 1)) (Err (Own rec.Kind 0))

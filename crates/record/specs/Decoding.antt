@@ -49,7 +49,7 @@ nameHere bs start p n (Some c) = Err (Own c start)
 abbrev pub nameAt : List ℕ → ℕ → Result (List ℕ × ℕ) RecordFault
 nameAt bs p =
     then (lifted (numberAt Count bs p)) (λ c.
-        cond (nameCount (c .0)) (nameHere bs p (p + c .1) (c .0) (nameFault (c .0) (drop (p + c .1) bs))) (Err (Own rec.Name p)))
+    cond (nameCount (c .0)) (nameHere bs p (p + c .1) (c .0) (nameFault (c .0) (drop (p + c .1) bs))) (Err (Own rec.Name p)))
 
 -- A scope, and the place after it: an anchor, or open by root name or nested list.
 abbrev pub scopeAt : (o byName : Bool) → List ℕ → ℕ → Result (Scope × ℕ) RecordFault

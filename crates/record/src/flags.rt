@@ -35,7 +35,8 @@ pub(crate) fn is_single(start: IndexScope<'_>, end: IndexScope<'_>) -> bool
     ensures { λ r. ⌜ r ≡ single (scopeOf (start .entry)) (scopeOf (end .entry)) ⌝ }
 {
     match (start, end) {
-        (IndexScope::Relative(a), IndexScope::Relative(b)) => a.client == b.client && a.clock == b.clock,
+        (IndexScope::Relative(a), IndexScope::Relative(b)) => a.client == b.client
+            && a.clock == b.clock,
         _ => false,
     }
 }

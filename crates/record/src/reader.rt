@@ -31,7 +31,13 @@ fn read_id(bytes: &[u8], at: usize) -> Result<(Id, usize), NumberFault>
 {
     let (client, n) = read_number(bytes, at, NumberField::Client)?;
     let (clock, m) = read_number(bytes, at + n, NumberField::Clock)?;
-    Ok((Id { client, clock: clock as u32 }, at + n + m))
+    Ok((
+        Id {
+            client,
+            clock: clock as u32,
+        },
+        at + n + m,
+    ))
 }
 
 /// Reads a name, its byte count first: a part of the bytes, and the place after it.
@@ -55,7 +61,12 @@ fn read_name<'a>(bytes: &'a [u8], at: usize) -> Result<(&'a [u8], usize), Record
 }
 
 /// Reads a scope, and the place after it: an anchor, or open by root name or by nested list.
-fn read_scope<'a>(bytes: &'a [u8], at: usize, opened: bool, named: bool) -> Result<(IndexScope<'a>, usize), RecordFault>
+fn read_scope<'a>(
+    bytes: &'a [u8],
+    at: usize,
+    opened: bool,
+    named: bool,
+) -> Result<(IndexScope<'a>, usize), RecordFault>
     requires { ⌜ at ≤ length (now bytes) ⌝ }
     ensures { λ r. ⌜ Cases r (λ p. (scopeAt opened named (now (bytes .entry)) at ≡ Ok (scopeOf (p .0), p .1)) × (p .1 ≤ length (now (bytes .entry)))) (λ e. scopeAt opened named (now (bytes .entry)) at ≡ Err e) ⌝ }
 {
@@ -74,7 +85,12 @@ fn read_scope<'a>(bytes: &'a [u8], at: usize, opened: bool, named: bool) -> Resu
 }
 
 /// Reads the end's scope, and the place after it; without one in the record it is the start's.
-fn read_end<'a>(bytes: &'a [u8], start: IndexScope<'a>, at: usize, byte: u8) -> Result<(IndexScope<'a>, usize), RecordFault>
+fn read_end<'a>(
+    bytes: &'a [u8],
+    start: IndexScope<'a>,
+    at: usize,
+    byte: u8,
+) -> Result<(IndexScope<'a>, usize), RecordFault>
     requires { ⌜ at ≤ length (now bytes) ⌝ }
     ensures { λ r. ⌜ Cases r (λ p. (endAt byte (now (bytes .entry)) (scopeOf (start .entry), at) ≡ Ok (scopeOf (p .0), p .1)) × (p .1 ≤ length (now (bytes .entry)))) (λ e. endAt byte (now (bytes .entry)) (scopeOf (start .entry), at) ≡ Err e) ⌝ }
 {
@@ -102,8 +118,14 @@ fn read_fields<'a>(bytes: &'a [u8], byte: u8) -> Result<(LinkSource<'a>, usize),
     let flags = flags_in(byte);
     let (first, next) = read_scope(bytes, 2, flags.start_open, flags.named)?;
     let (last, next) = read_end(bytes, first, next, byte)?;
-    let start = StickyIndex { scope: first, assoc: assoc_of(flags.start_after) };
-    let end = StickyIndex { scope: last, assoc: assoc_of(flags.end_after) };
+    let start = StickyIndex {
+        scope: first,
+        assoc: assoc_of(flags.start_after),
+    };
+    let end = StickyIndex {
+        scope: last,
+        assoc: assoc_of(flags.end_after),
+    };
     match LinkSource::new(start, end) {
         Some(source) => Ok((source, next)),
         None => unreachable(),

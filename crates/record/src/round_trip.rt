@@ -11,7 +11,11 @@ use crate::writer::encode_weak_link;
 use source::weak::LinkSource;
 
 /// Writes a source into a buffer from a place on, and reads it from there: that very source, and as many bytes as were written.
-pub fn write_and_read<'b>(source: &LinkSource<'_>, buf: &'b mut [u8], at: usize) -> Result<(LinkSource<'b>, usize), WriteFault>
+pub fn write_and_read<'b>(
+    source: &LinkSource<'_>,
+    buf: &'b mut [u8],
+    at: usize,
+) -> Result<(LinkSource<'b>, usize), WriteFault>
     ensures { λ r. ⌜ Cases r (λ p. (startOf (p .0) ≡ startOf (now (source .entry))) × (endOf (p .0) ≡ endOf (now (source .entry))) × (p .1 ≡ length (recordOf (startOf (now (source .entry))) (endOf (now (source .entry)))))) (λ e. refused (length (now (buf .entry))) at (startOf (now (source .entry))) (endOf (now (source .entry))) ≡ Some e) ⌝ }
 {
     let _ = encode_weak_link(source, buf, at)?;

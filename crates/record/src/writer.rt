@@ -195,7 +195,11 @@ fn put_record(part: &mut [u8], start: StickyIndex<'_>, end: StickyIndex<'_>) -> 
 /// Writes a source as a weak-link record into a buffer from a place on, and says how many bytes it took; or why not, and then nothing.
 ///
 /// What is written is a form of the source's record, so the reader gives the source back.
-pub fn encode_weak_link(source: &LinkSource<'_>, buf: &mut [u8], at: usize) -> Result<usize, WriteFault>
+pub fn encode_weak_link(
+    source: &LinkSource<'_>,
+    buf: &mut [u8],
+    at: usize,
+) -> Result<usize, WriteFault>
     ensures bytes { λ r. ⌜ Cases r (λ n. (refused (length (now (buf .entry))) at (startOf (now (source .entry))) (endOf (now (source .entry))) ≡ None) × (n ≡ length (recordOf (startOf (now (source .entry))) (endOf (now (source .entry))))) × (now (buf .exit) ≡ written (now (buf .entry)) at (recordOf (startOf (now (source .entry))) (endOf (now (source .entry)))))) (λ e. (refused (length (now (buf .entry))) at (startOf (now (source .entry))) (endOf (now (source .entry))) ≡ Some e) × (now (buf .exit) ≡ now (buf .entry))) ⌝ }
     ensures within { λ r. ⌜ made r (λ n. at + n ≤ length (now (buf .entry))) ⌝ }
     ensures formed { λ r. ⌜ made r (λ _. RecordForm (recordOf (startOf (now (source .entry))) (endOf (now (source .entry)))) (startOf (now (source .entry))) (endOf (now (source .entry)))) ⌝ }

@@ -42,7 +42,11 @@ impl<'a> LinkSource<'a> {
             (IndexScope::Root(a), IndexScope::Root(b)) => Scopes::RootBoth(a, b),
             _ => return None,
         };
-        Some(LinkSource { scopes, start_assoc: start.assoc, end_assoc: end.assoc })
+        Some(LinkSource {
+            scopes,
+            start_assoc: start.assoc,
+            end_assoc: end.assoc,
+        })
     }
 
     /// The start; and of every source, that its open sides are open the same way.
@@ -59,7 +63,10 @@ impl<'a> LinkSource<'a> {
             Scopes::NestedBoth(a, _) => IndexScope::Nested(a),
             Scopes::RootBoth(a, _) => IndexScope::Root(a),
         };
-        StickyIndex { scope, assoc: self.start_assoc }
+        StickyIndex {
+            scope,
+            assoc: self.start_assoc,
+        }
     }
 
     /// The end.
@@ -75,6 +82,9 @@ impl<'a> LinkSource<'a> {
             Scopes::NestedBoth(_, b) => IndexScope::Nested(b),
             Scopes::RootBoth(_, b) => IndexScope::Root(b),
         };
-        StickyIndex { scope, assoc: self.end_assoc }
+        StickyIndex {
+            scope,
+            assoc: self.end_assoc,
+        }
     }
 }

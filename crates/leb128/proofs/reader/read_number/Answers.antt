@@ -19,4 +19,5 @@ returns c =
       value = v;
       told = (reading (maxLen f) (limit f) (drop p bs), told (maxLen f) (limit f) (drop p bs) (some .0) (some .1), v);
       only = λ q t. v ∙ ap (answer p) (only (maxLen f) (limit f) (drop p bs) q t);
-      within = subst (λ l. made (c .read-within .result) (λ q. (p + q .1 ≤ length bs) × (q .0 < l))) (c .limit .ensures) (c .read-within .ensures .within) }
+      within = subst (λ l. made (c .read-within .result) (λ q. (p + q .1 ≤ length bs) × (q .0 < l))) (c .limit .ensures) (c .read-within .ensures .within);
+    }

@@ -24,4 +24,5 @@ returns c =
     record {
       count = omega (arith, c .loop-rest .inv .1);
       bound = omega (arith, c .loop-rest .inv .1, uleb-ten (c .args .value) (c .fits .value .fits));
-      bytes = put-last (c .loop-rest .part) (c .args .part .now) (c .loop-rest .n) (c .loop-rest .rest) (c .args .value) h (c .loop-rest-test .left) (c .loop-rest .inv) }
+      bytes = put-last (c .loop-rest .part) (c .args .part .now) (c .loop-rest .n) (c .loop-rest .rest) (c .args .value) h (c .loop-rest-test .left) (c .loop-rest .inv);
+    }

@@ -25,11 +25,12 @@ returns-then-next-gt18446744073709551615 c =
 pub loop-n-again : need.loop-n-again
 loop-n-again c =
     let w = c .args .word .now in
-    let n = c .loop-n .n in
-    ( sym (value-more w n (c .loop-n .value) (c .loop-n-test .taken)) ∙ c .loop-n .inv .0
-    , sym (digits-step w n (c .loop-n-test .taken) (sym (c .if-not-is-digit .ensures tt))) ∙ c .loop-n .inv .1
-    , omega arith
-    , omega arith )
+    let n = c .loop-n .n in (
+      sym (value-more w n (c .loop-n .value) (c .loop-n-test .taken)) ∙ c .loop-n .inv .0,
+      sym (digits-step w n (c .loop-n-test .taken) (sym (c .if-not-is-digit .ensures tt))) ∙ c .loop-n .inv .1,
+      omega arith,
+      omega arith,
+    )
 
 pub returns : need.returns
 returns c =

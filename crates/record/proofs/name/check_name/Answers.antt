@@ -20,8 +20,9 @@ returns-then-not-is-printable c =
 pub loop-k-again : need.loop-k-again
 loop-k-again c =
     let e = name-next (c .args .count - c .loop-k .k) (c .args .from + c .loop-k .k) (c .args .bytes .now) (omega arith) (omega arith) in
-    let m : c .args .count - (c .loop-k .k + 1) ≡ c .args .count - c .loop-k .k - 1 = omega arith in
-    ( ap (λ q. nameFault q (drop (c .args .from + (c .loop-k .k + 1)) (c .args .bytes .now))) m
-      ∙ rw (← add-assoc) (sym (cond-true _ _ _ (sym (c .if-not-is-printable .ensures tt))) ∙ (sym e ∙ c .loop-k .inv .0))
-    , omega arith
-    , omega arith )
+    let m : c .args .count - (c .loop-k .k + 1) ≡ c .args .count - c .loop-k .k - 1 = omega arith in (
+      ap (λ q. nameFault q (drop (c .args .from + (c .loop-k .k + 1)) (c .args .bytes .now))) m
+          ∙ rw (← add-assoc) (sym (cond-true _ _ _ (sym (c .if-not-is-printable .ensures tt))) ∙ (sym e ∙ c .loop-k .inv .0)),
+      omega arith,
+      omega arith,
+    )

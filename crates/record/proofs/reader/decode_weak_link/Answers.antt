@@ -4,7 +4,8 @@ use Rattle.record.proofs.reader.decode_weak_link.Needs as need
 
 pub returns : need.returns
 returns c = record {
-    exact = c .read-record .ensures;
-    formed = formed-of (c .args .bytes .now) (c .read-record .result) (c .read-record .ensures);
-    every = every-of (c .args .bytes .now) (c .read-record .result) (c .read-record .ensures);
-    stays = decode-stays (c .args .bytes .now) }
+  exact = c .read-record .ensures;
+  formed = formed-of (c .args .bytes .now) (c .read-record .result) (c .read-record .ensures);
+  every = every-of (c .args .bytes .now) (c .read-record .result) (c .read-record .ensures);
+  stays = decode-stays (c .args .bytes .now);
+}

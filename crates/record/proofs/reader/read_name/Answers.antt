@@ -15,7 +15,8 @@ pub returns-in-None : need.returns-in-None
 returns-in-None c =
     let w = name-within (c .in-Continue-count .count) (drop (c .args .«at» + c .in-Continue-count .n) (c .args .bytes .now)) (sym (c .in-None .ensures tt)) in
     let p : ℕ = c .args .«at» + c .in-Continue-count .n in
-    let k : c .in-Continue-count .count ≡ p + c .in-Continue-count .count - p = omega arith in
-    ( name-ok (c .args .bytes .now) (c .args .«at») (c .in-Continue-count .count) (c .in-Continue-count .n) (c .in-Continue-count .ensures tt .value) (omega arith) (omega arith) (sym (c .in-None .ensures tt))
-      ∙ ap (λ q. Ok (take q (drop p (c .args .bytes .now)), p + c .in-Continue-count .count)) k
-    , omega (arith, w, length-drop (c .args .«at» + c .in-Continue-count .n) (c .args .bytes .now)) )
+    let k : c .in-Continue-count .count ≡ p + c .in-Continue-count .count - p = omega arith in (
+      name-ok (c .args .bytes .now) (c .args .«at») (c .in-Continue-count .count) (c .in-Continue-count .n) (c .in-Continue-count .ensures tt .value) (omega arith) (omega arith) (sym (c .in-None .ensures tt))
+          ∙ ap (λ q. Ok (take q (drop p (c .args .bytes .now)), p + c .in-Continue-count .count)) k,
+      omega (arith, w, length-drop (c .args .«at» + c .in-Continue-count .n) (c .args .bytes .now)),
+    )

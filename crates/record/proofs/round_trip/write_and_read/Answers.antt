@@ -25,5 +25,5 @@ returns c =
     let done = c .in-Continue-encode-weak-link .ensures tt in
     let t = ap decode (take-rest (c .encode-weak-link .last .buf) (c .args .«at»)) in
     let e : ((startOf (c .in-Ok .p .0), endOf (c .in-Ok .p .0)), c .in-Ok .p .1) ≡ ((startOf src, endOf src), c .in-Continue-encode-weak-link .field-0) =
-        ok-same _ _ (sym (c .in-Ok .ensures tt .exact .0) ∙ (t ∙ done .back)) in
+    ok-same _ _ (sym (c .in-Ok .ensures tt .exact .0) ∙ (t ∙ done .back)) in
     (ap (λ q. q .0 .0) e, ap (λ q. q .0 .1) e, ap (λ q. q .1) e ∙ done .bytes .1)

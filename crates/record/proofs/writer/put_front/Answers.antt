@@ -15,5 +15,6 @@ put-scope-requires c κs =
 
 pub returns : need.returns
 returns c = record {
-    count = omega (arith, c .put-head-n .ensures .count, c .put-scope .ensures .count);
-    bytes = put-then (c .args .part .now) (c .put-head-n .last .part) (c .put-scope .last .part) (7 ∷ c .args .set ∷ []) (scopeBytes (scopeOf (c .args .scope))) (c .put-head-n .result) (c .put-head-n .ensures .count) (c .put-head-n .ensures .bytes) (c .put-scope .ensures .bytes) }
+  count = omega (arith, c .put-head-n .ensures .count, c .put-scope .ensures .count);
+  bytes = put-then (c .args .part .now) (c .put-head-n .last .part) (c .put-scope .last .part) (7 ∷ c .args .set ∷ []) (scopeBytes (scopeOf (c .args .scope))) (c .put-head-n .result) (c .put-head-n .ensures .count) (c .put-head-n .ensures .bytes) (c .put-scope .ensures .bytes);
+}

@@ -22,5 +22,6 @@ put-number-requires c κs =
 
 pub returns : need.returns
 returns c = record {
-    count = omega (arith, c .put-number-n .ensures .count, c .put-number .ensures .count, length-append (uleb (c .args .id .client)) (uleb (c .args .id .clock)));
-    bytes = put-then (c .args .part .now) (c .put-number-n .last .part) (c .put-number .last .part) (uleb (c .args .id .client)) (uleb (c .args .id .clock)) (c .put-number-n .result) (c .put-number-n .ensures .count) (c .put-number-n .ensures .bytes) (c .put-number .ensures .bytes) }
+  count = omega (arith, c .put-number-n .ensures .count, c .put-number .ensures .count, length-append (uleb (c .args .id .client)) (uleb (c .args .id .clock)));
+  bytes = put-then (c .args .part .now) (c .put-number-n .last .part) (c .put-number .last .part) (uleb (c .args .id .client)) (uleb (c .args .id .clock)) (c .put-number-n .result) (c .put-number-n .ensures .count) (c .put-number-n .ensures .bytes) (c .put-number .ensures .bytes);
+}

@@ -22,5 +22,6 @@ put-bytes-requires c κs =
 
 pub returns : need.returns
 returns c = record {
-    count = omega (arith, c .put-number-n .ensures .count, c .put-bytes .ensures .count, length-append (uleb (length (c .args .name .now))) (c .args .name .now));
-    bytes = put-then (c .args .part .now) (c .put-number-n .last .part) (c .put-bytes .last .part) (uleb (length (c .args .name .now))) (c .args .name .now) (c .put-number-n .result) (c .put-number-n .ensures .count) (c .put-number-n .ensures .bytes) (c .put-bytes .ensures .bytes) }
+  count = omega (arith, c .put-number-n .ensures .count, c .put-bytes .ensures .count, length-append (uleb (length (c .args .name .now))) (c .args .name .now));
+  bytes = put-then (c .args .part .now) (c .put-number-n .last .part) (c .put-bytes .last .part) (uleb (length (c .args .name .now))) (c .args .name .now) (c .put-number-n .result) (c .put-number-n .ensures .count) (c .put-number-n .ensures .bytes) (c .put-bytes .ensures .bytes);
+}

@@ -14,4 +14,5 @@ returns c =
     record {
       count = done .0;
       bound = omega (arith, done .0, uleb-ten (c .args .value) (c .fits .value .fits));
-      bytes = done .2 ∙ ap (λ k. bs ++ drop k (c .args .part .now)) (zero-add (length bs)) }
+      bytes = done .2 ∙ ap (λ k. bs ++ drop k (c .args .part .now)) (zero-add (length bs));
+    }

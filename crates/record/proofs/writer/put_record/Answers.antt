@@ -37,5 +37,6 @@ returns c =
     record {
       count = omega (arith, c .put-front-n .ensures .count, c .put-end .ensures .count, length-append (scopeBytes (scopeOf (c .args .start .scope))) (endBytes (single (scopeOf (c .args .start .scope)) (scopeOf (c .args .end .scope))) (scopeOf (c .args .end .scope))));
       bytes =
-        put-then (c .args .part .now) (c .put-front-n .last .part) (c .put-end .last .part) (frontBytes (c .flags-of .result) (scopeOf (c .args .start .scope))) (endBytes (c .is-single .result) (scopeOf (c .args .end .scope))) (c .put-front-n .result) (c .put-front-n .ensures .count) (c .put-front-n .ensures .bytes) (c .put-end .ensures .bytes)
-        ∙ (ap (λ f. whole (R f (c .is-single .result))) (c .flags-of .ensures) ∙ ap (λ t. whole (R (flags (sideOf (c .args .start)) (sideOf (c .args .end))) t)) (c .is-single .ensures)) }
+          put-then (c .args .part .now) (c .put-front-n .last .part) (c .put-end .last .part) (frontBytes (c .flags-of .result) (scopeOf (c .args .start .scope))) (endBytes (c .is-single .result) (scopeOf (c .args .end .scope))) (c .put-front-n .result) (c .put-front-n .ensures .count) (c .put-front-n .ensures .bytes) (c .put-end .ensures .bytes)
+          ∙ (ap (λ f. whole (R f (c .is-single .result))) (c .flags-of .ensures) ∙ ap (λ t. whole (R (flags (sideOf (c .args .start)) (sideOf (c .args .end))) t)) (c .is-single .ensures));
+    }

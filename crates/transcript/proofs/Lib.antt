@@ -1,0 +1,3 @@
+mod AnswerLaws
+mod CallLaws
+mod ScriptLaws
