@@ -13,12 +13,12 @@ pub fn number_len(value: u64) -> usize
     ensures bound { λ r. ⌜ r ≤ 10 ⌝ }
 {
     let mut rest = value;
-    let mut n = 0usize;
+    let mut len = 1usize;
     while rest >= 128 {
         rest /= 128;
-        n += 1;
+        len += 1;
     }
-    n + 1
+    len
 }
 
 /// Writes the shortest form of a number to the front of a buffer that holds it.

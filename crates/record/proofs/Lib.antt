@@ -1,7 +1,5 @@
-mod BackLaws
 mod FlagLaws
-mod FormLaws
-mod NameLaws
+pub mod FormLaws
+pub mod NameLaws
 mod SoundLaws
 mod StayLaws
-mod WriteLaws

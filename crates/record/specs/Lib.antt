@@ -1,5 +1,4 @@
 pub mod Decoding
-pub mod Encoding
 pub mod Format
 pub mod Forms
 pub mod Names

@@ -6,8 +6,6 @@ use Rattle.record.specs.declared.fault.RecordCause.{RecordCause}
 use Rattle.record.specs.declared.fault.RecordCause.the-variants as rec
 use Rattle.record.specs.declared.fault.RecordFault.{RecordFault}
 use Rattle.record.specs.declared.fault.RecordFault.the-variants.{Number, Own}
-use Rattle.record.specs.declared.fault.WriteFault.{WriteFault}
-use Rattle.record.specs.declared.fault.WriteFault.the-variants as wr
 
 -- The number of each refusal of the reader, and where and by which layer it is told.
 abbrev pub recordCause : RecordCause → ℕ
@@ -26,9 +24,3 @@ recordOffset (Own c p) = p
 abbrev pub recordLayer : RecordFault → Layer
 recordLayer (Number f) = lay.Number
 recordLayer (Own c p) = lay.Record
-
--- The number of each refusal of the writer.
-abbrev pub writeFault : WriteFault → ℕ
-writeFault wr.Name = 1
-writeFault wr.Client = 4
-writeFault wr.Room = 20

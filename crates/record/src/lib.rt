@@ -1,8 +1,6 @@
-//! The weak-link record: a source as bytes, written in one form and read in every form that says the same.
+//! The weak-link record: its format, and a reader that takes every form of it.
 
 pub mod fault;
 mod flags;
 pub mod name;
 pub mod reader;
-pub mod round_trip;
-pub mod writer;

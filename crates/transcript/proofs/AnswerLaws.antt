@@ -9,7 +9,7 @@ use Rattle.std.proofs.shelf.Lists.{take-at}
 use Rattle.leb128.specs.Buffers.{written}
 use Rattle.source.specs.Meaning.{Side}
 use Rattle.record.specs.Format.{recordOf}
-use Rattle.record.specs.Encoding.{refused}
+use Rattle.record_writer.specs.Encoding.{refused}
 use Rattle.notation.specs.Hex.{hexOf}
 use Rattle.transcript.specs.Answers.{roomFor, writeText}
 

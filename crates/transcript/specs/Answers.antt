@@ -10,10 +10,11 @@ use Rattle.source.specs.Meaning.{Side}
 use Rattle.record.specs.declared.fault.Layer.{Layer}
 use Rattle.record.specs.declared.fault.Layer.the-variants as lay
 use Rattle.record.specs.declared.fault.RecordFault.{RecordFault}
-use Rattle.record.specs.declared.fault.WriteFault.{WriteFault}
-use Rattle.record.specs.Told.{recordNumber, recordOffset, recordLayer, writeFault}
+use Rattle.record_writer.specs.declared.fault.WriteFault.{WriteFault}
+use Rattle.record.specs.Told.{recordNumber, recordOffset, recordLayer}
+use Rattle.record_writer.specs.Told.{writeFault}
 use Rattle.record.specs.Format.{recordOf}
-use Rattle.record.specs.Encoding.{refused}
+use Rattle.record_writer.specs.Encoding.{refused}
 use Rattle.record.specs.Decoding as read
 use Rattle.notation.specs.Hex.{bytesIn, hexOf}
 use Rattle.notation.specs.Sides.{sourceText}

@@ -1,21 +1,18 @@
-use Prim.Native.Nat.{_+_, _/_, _<_, _≤_}
+use Prim.Native.Nat.{_+_, _/_}
 use mathlib.Core.Path.{_≡_, refl}
 use native.Mathlib.Omega.{arith}
 use lib.ListN.{length}
 use Rattle.leb128.specs.Leb128.{uleb}
-use Rattle.leb128.proofs.Leb128Laws.{uleb-small, uleb-step, uleb-some, uleb-ten}
+use Rattle.leb128.proofs.Leb128Laws.{uleb-small, uleb-step, uleb-ten}
 use Rattle.leb128.proofs.writer.number_len.Needs as need
 
-pub add-n : need.add-n
-add-n c = omega (arith, uleb-ten (c .args .value) (c .fits .value .fits))
+pub add-len : need.add-len
+add-len c = omega (arith, uleb-ten (c .args .value) (c .fits .value .fits))
 
 pub loop-rest-again : need.loop-rest-again
 loop-rest-again c =
     let s : length (uleb (c .loop-rest .rest)) ≡ 1 + length (uleb (c .loop-rest .rest / 128)) = rw (uleb-step (c .loop-rest .rest) (c .loop-rest-test .taken)) (omega arith) in
     omega arith
-
-pub add-result : need.add-result
-add-result c = omega (arith, uleb-some (c .loop-rest .rest), uleb-ten (c .args .value) (c .fits .value .fits))
 
 pub returns : need.returns
 returns c =

@@ -1,6 +1,0 @@
-use borrow.Author.Needs.{needs}
-use lib.ListN.{length-append}
-use Rattle.record.proofs.writer.id_len.Needs as need
-
-pub returns : need.returns
-returns c = search (needs, length-append)

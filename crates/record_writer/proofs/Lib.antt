@@ -1,0 +1,2 @@
+mod BackLaws
+mod WriteLaws
