@@ -1,3 +1,4 @@
+mod FirstLaws
 mod FlagLaws
 pub mod FormLaws
 pub mod NameLaws

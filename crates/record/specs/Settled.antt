@@ -1,4 +1,7 @@
+use mathlib.Core.Path.{_≡_}
 use mathlib.Core.Bool.{Bool, true, false}
+use mathlib.Core.List.{List, [], _∷_, _++_}
+use Prim.Native.Nat.{ℕ}
 use Rattle.std.specs.declared.result.Result.{Result}
 use Rattle.std.specs.declared.result.Result.the-variants.{Ok, Err}
 use Rattle.leb128.specs.declared.fault.NumberCause.{NumberCause}
@@ -8,6 +11,7 @@ use Rattle.record.specs.declared.fault.RecordCause.{RecordCause}
 use Rattle.record.specs.declared.fault.RecordCause.the-variants as rec
 use Rattle.record.specs.declared.fault.RecordFault.{RecordFault}
 use Rattle.record.specs.declared.fault.RecordFault.the-variants.{Number, Own}
+use Rattle.record.specs.Decoding.{decode}
 
 -- A fault that more bytes do not mend: any but that the bytes end.
 abbrev pub lastCause : NumberCause → Bool
@@ -30,3 +34,9 @@ lastRecord (Own c p) = lastOwn c
 abbrev pub settled : {A E : Type 0} → (E → Bool) → Result A E → Bool
 settled last (Ok x) = true
 settled last (Err e) = last e
+
+-- The byte that settles what bytes are read as: before it the record merely ends, and with it the answer is what it stays.
+abbrev pub SettledAt : List ℕ → Type 0
+SettledAt bs =
+    (front : List ℕ) × (b : ℕ) × (rest : List ℕ) × (bs ≡ front ++ (b ∷ rest))
+    × (settled lastRecord (decode front) ≡ false) × (decode (front ++ (b ∷ [])) ≡ decode bs)

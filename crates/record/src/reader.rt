@@ -9,7 +9,7 @@ ghost use Rattle.std.specs.Vec.{made};
 ghost use Rattle.source.specs.Meaning.{Side, scopeOf, sticksAfter, idOf, startOf, endOf};
 ghost use Rattle.record.specs.Decoding.{idAt, nameAt, scopeAt, endAt, fields, decode};
 ghost use Rattle.record.specs.Forms.{RecordForm};
-ghost use Rattle.record.specs.Settled.{settled, lastRecord};
+ghost use Rattle.record.specs.Settled.{settled, lastRecord, SettledAt};
 use crate::fault::RecordCause;
 use crate::fault::RecordFault;
 use crate::fault::RecordFromNumber;
@@ -147,12 +147,13 @@ fn read_record<'a>(bytes: &'a [u8]) -> Result<(LinkSource<'a>, usize), RecordFau
 /// Reads the weak-link record that bytes begin with: its source, and how many bytes it takes.
 ///
 /// What is accepted is a form of the source's record, and every such form is accepted, whatever stands after it.
-/// A fault other than that the bytes end stays whatever bytes come after.
+/// What is read, and any fault but that the bytes end, stays whatever bytes come after, and is told at the byte that causes it.
 pub fn decode_weak_link<'a>(bytes: &'a [u8]) -> Result<(LinkSource<'a>, usize), RecordFault>
     ensures exact { λ r. ⌜ Cases r (λ p. (decode (now (bytes .entry)) ≡ Ok ((startOf (p .0), endOf (p .0)), p .1)) × (p .1 ≤ length (now (bytes .entry)))) (λ e. decode (now (bytes .entry)) ≡ Err e) ⌝ }
     ensures formed { λ r. ⌜ made r (λ p. (front : List ℕ) × (rest : List ℕ) × (now (bytes .entry) ≡ front ++ rest) × RecordForm front (startOf (p .0)) (endOf (p .0)) × (length front ≡ p .1)) ⌝ }
     ensures every { λ r. ⌜ ((front rest : List ℕ) (s e : Side) → now (bytes .entry) ≡ front ++ rest → RecordForm front s e → Cases r (λ p. (startOf (p .0) ≡ s) × (endOf (p .0) ≡ e) × (p .1 ≡ length front)) (λ _. ⊥)) ⌝ }
     ensures stays { λ _. ⌜ ((more : List ℕ) → settled lastRecord (decode (now (bytes .entry))) ≡ true → decode (now (bytes .entry) ++ more) ≡ decode (now (bytes .entry))) ⌝ }
+    ensures first { λ _. ⌜ (settled lastRecord (decode (now (bytes .entry))) ≡ true → SettledAt (now (bytes .entry))) ⌝ }
 {
     read_record(bytes)
 }
