@@ -12,8 +12,8 @@ use Rattle.std.proofs.shelf.Lists.{take-rest}
 use Rattle.std.proofs.shelf.Tests.{ne-eqb, eq-eqb, cond-true, cond-false}
 use Rattle.source.specs.Meaning.{Scope, nested, root}
 use Rattle.notation.specs.Words.{upTo}
-use Rattle.notation.specs.Numerals.{numberIn}
-use Rattle.notation.specs.Sides.{andThen, clockIn, idIn, scopeIn, sideIn}
+use Rattle.notation.specs.Numerals.{andThen, numberIn}
+use Rattle.notation.specs.Sides.{clockIn, idIn, scopeIn, sideIn}
 
 -- What stands after the first byte, as a part of a slice.
 abbrev pub behind : List ℕ → List ℕ

@@ -9,12 +9,7 @@ use Rattle.std.specs.Options.{mapped}
 use Rattle.std.specs.Written.{decimal}
 use Rattle.source.specs.Meaning.{Scope, relative, nested, root, Side}
 use Rattle.notation.specs.Words.{upTo}
-use Rattle.notation.specs.Numerals.{numberIn}
-
--- One reading after another: the first that says nothing ends it.
-abbrev pub andThen : {A B : Type 0} → Option A → (A → Option B) → Option B
-andThen None f = None
-andThen (Some x) f = f x
+use Rattle.notation.specs.Numerals.{andThen, numberIn}
 
 -- A clock has 32 bits.
 abbrev pub clockIn : List ℕ → Option ℕ

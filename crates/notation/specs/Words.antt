@@ -1,5 +1,5 @@
-use mathlib.Core.Bool.{Bool, not}
-use mathlib.Core.List.{List}
+use mathlib.Core.Bool.{Bool, cond, not}
+use mathlib.Core.List.{List, [], _∷_, _++_}
 use Prim.Native.Nat.{ℕ}
 use lib.Dec.{eqb}
 use lib.ListN.{take, drop}
@@ -23,3 +23,16 @@ firstWord line = take (upTo 0x20 (trimmed line)) (trimmed line)
 
 abbrev pub afterWord : List ℕ → List ℕ
 afterWord line = drop (upTo 0x20 (trimmed line)) (trimmed line)
+
+-- A word before others, unless it is empty.
+abbrev pub before : List ℕ → List (List ℕ) → List (List ℕ)
+before [] ws = ws
+before (b ∷ bs) ws = (b ∷ bs) ∷ ws
+
+-- The words of a line, where the bytes so far are the front of the first.
+abbrev pub wordsFrom : List ℕ → List ℕ → List (List ℕ)
+wordsFrom front [] = before front []
+wordsFrom front (b ∷ bs) = cond (isBlank b) (before front (wordsFrom [] bs)) (wordsFrom (front ++ (b ∷ [])) bs)
+
+abbrev pub wordsIn : List ℕ → List (List ℕ)
+wordsIn line = wordsFrom [] line

@@ -3,4 +3,5 @@
 pub mod hex;
 pub mod numeral;
 pub mod side;
+pub mod wanted;
 pub mod words;

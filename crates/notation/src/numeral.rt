@@ -1,9 +1,13 @@
 ghost use mathlib.Core.Path.{_≡_};
+ghost use mathlib.Core.Bool.{cond};
 ghost use mathlib.Core.List.{_++_};
 ghost use Rattle.std.specs.Vec.{made};
 ghost use Rattle.std.specs.Of.Vec.{vec-items};
 ghost use Rattle.std.specs.Written.{decimal};
-ghost use Rattle.notation.specs.Numerals.{isDigit, numberIn};
+ghost use Rattle.std.specs.Options.{mapped};
+ghost use Rattle.std.specs.declared.option.Option.the-variants.{Some, None};
+ghost use Rattle.notation.specs.Numerals.{isDigit, numberIn, numbersIn, allShort};
+use crate::words::next_word;
 use std::alloc::AllocError;
 use std::alloc::Global;
 
@@ -35,6 +39,39 @@ pub fn read_number(word: &[u8]) -> Option<u64>
         n += 1;
     }
     Some(value)
+}
+
+/// The numbers that the words of a line say; none where a word says none.
+pub fn read_numbers(heap: Global, line: &[u8]) -> Result<Option<Vec<u64>>, AllocError>
+    ensures { λ r. ⌜ made r (λ o. mapped vec-items o ≡ numbersIn (now (line .entry))) ⌝ }
+{
+    let mut numbers = Vec::new(heap);
+    let mut rest = line;
+    loop {
+        let (word, more) = next_word(rest);
+        if word.len() == 0 {
+            return Ok(Some(numbers));
+        }
+        match read_number(word) {
+            Some(number) => numbers.push(number)?,
+            None => return Ok(None),
+        }
+        rest = more;
+    }
+}
+
+/// The same numbers in 16 bits; none where one of them does not fit.
+pub fn shorten(heap: Global, numbers: &[u64]) -> Result<Option<Vec<u16>>, AllocError>
+    ensures { λ r. ⌜ made r (λ o. mapped vec-items o ≡ cond (allShort (now (numbers .entry))) (Some (now (numbers .entry))) None) ⌝ }
+{
+    let mut units = Vec::new(heap);
+    for number in numbers {
+        if *number >= 0x1_0000 {
+            return Ok(None);
+        }
+        units.push(*number as u16)?;
+    }
+    Ok(Some(units))
 }
 
 /// Appends a number to a text, in decimal digits.

@@ -18,7 +18,9 @@ use Rattle.record_writer.specs.Encoding.{refused}
 use Rattle.record.specs.Decoding as read
 use Rattle.notation.specs.Hex.{bytesIn, hexOf}
 use Rattle.notation.specs.Sides.{sourceText}
-use Rattle.transcript.specs.Calls.{Asked, write, decode}
+use Rattle.transcript.specs.Calls.{Asked, write, decode, pieces}
+use Rattle.transcript.specs.Refusals.{refusalText}
+use Rattle.transcript.specs.Pieces.{asked, piecesText}
 
 -- How many bytes a call may write: more than any record takes.
 abbrev pub roomFor : ℕ
@@ -28,10 +30,7 @@ abbrev pub layerText : Layer → List ℕ
 layerText lay.Number = codes "number"
 layerText lay.Record = codes "record"
 
--- A refusal is told by its number; a record's fault adds its offset and its layer.
-abbrev pub refusalText : ℕ → List ℕ
-refusalText n = codes "refused " ++ decimal n
-
+-- The refusal of a record adds its offset and its layer.
 abbrev pub faultText : RecordFault → List ℕ
 faultText f = refusalText (recordNumber f) ++ (codes " at " ++ (decimal (recordOffset f) ++ (codes " " ++ layerText (recordLayer f))))
 
@@ -48,3 +47,4 @@ abbrev pub answerTo : Option Asked → List ℕ
 answerTo None = codes "no call"
 answerTo (Some (write s e)) = writeText s e (refused roomFor 0 s e)
 answerTo (Some (decode w)) = decodeText (read.decode (bytesIn w))
+answerTo (Some (pieces k w)) = piecesText (asked w) k

@@ -2,15 +2,18 @@ ghost use mathlib.Core.Path.{_≡_};
 ghost use mathlib.Core.List.{_++_};
 ghost use Rattle.std.specs.Vec.{made};
 ghost use Rattle.std.specs.Of.Vec.{vec-items};
+ghost use Rattle.std.specs.declared.option.Option.the-variants.{Some};
 ghost use Rattle.source.specs.Meaning.{startOf, endOf};
 ghost use Rattle.record_writer.specs.Encoding.{refused};
 ghost use Rattle.record.specs.Decoding.{decode};
 ghost use lib.Chars.{codes};
 ghost use Rattle.notation.specs.Hex.{hexOf};
-ghost use Rattle.transcript.specs.Calls.{callIn};
-ghost use Rattle.transcript.specs.Answers.{roomFor, layerText, refusalText, faultText, writeText, decodeText, answerTo};
+ghost use Rattle.transcript.specs.Calls.{callOf, callIn};
+ghost use Rattle.transcript.specs.Answers.{roomFor, layerText, faultText, writeText, decodeText, answerTo};
 use crate::call::Call;
 use crate::call::read_call;
+use crate::pieces::push_pieces;
+use crate::refusal::push_refusal;
 use notation::hex::push_hex;
 use notation::hex::read_hex;
 use notation::numeral::push_number;
@@ -22,14 +25,6 @@ use record_writer::writer::encode_weak_link;
 use source::weak::LinkSource;
 use std::alloc::AllocError;
 use std::alloc::Global;
-
-/// Appends `refused` and a refusal's number.
-fn push_refusal(heap: Global, text: &mut Vec<u8>, number: u8) -> Result<(), AllocError>
-    ensures { λ r. ⌜ made r (λ _. vec-items (now (text .exit)) ≡ vec-items (now (text .entry)) ++ refusalText number) ⌝ }
-{
-    text.extend_from_slice(b"refused ")?;
-    push_number(heap, text, number as u64)
-}
 
 fn push_layer(text: &mut Vec<u8>, layer: Layer) -> Result<(), AllocError>
     ensures { λ r. ⌜ made r (λ _. vec-items (now (text .exit)) ≡ vec-items (now (text .entry)) ++ layerText layer) ⌝ }
@@ -84,16 +79,26 @@ fn push_decoded(heap: Global, text: &mut Vec<u8>, bytes: &[u8]) -> Result<(), Al
     }
 }
 
+/// Appends the answer to a call.
+fn push_call(heap: Global, text: &mut Vec<u8>, call: &Call<'_>) -> Result<(), AllocError>
+    ensures { λ r. ⌜ made r (λ _. vec-items (now (text .exit)) ≡ vec-items (now (text .entry)) ++ answerTo (Some (callOf (now (call .entry))))) ⌝ }
+{
+    match call {
+        Call::Write(source) => push_record(heap, text, source),
+        Call::Decode(word) => {
+            let bytes = read_hex(heap, word)?;
+            push_decoded(heap, text, bytes.as_slice())
+        }
+        Call::Pieces(offset, wanted) => push_pieces(heap, text, *offset, wanted),
+    }
+}
+
 /// Appends the answer to a line: to the call that it says, or that it says none.
 pub fn push_answer(heap: Global, text: &mut Vec<u8>, line: &[u8]) -> Result<(), AllocError>
     ensures { λ r. ⌜ made r (λ _. vec-items (now (text .exit)) ≡ vec-items (now (text .entry)) ++ answerTo (callIn (now (line .entry)))) ⌝ }
 {
-    match read_call(line) {
-        Some(Call::Write(source)) => push_record(heap, text, &source),
-        Some(Call::Decode(word)) => {
-            let bytes = read_hex(heap, word)?;
-            push_decoded(heap, text, bytes.as_slice())
-        }
+    match read_call(heap, line)? {
+        Some(call) => push_call(heap, text, &call),
         None => text.extend_from_slice(b"no call"),
     }
 }

@@ -2,4 +2,6 @@
 
 pub mod answer;
 pub mod call;
+pub mod pieces;
+mod refusal;
 pub mod script;

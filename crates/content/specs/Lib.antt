@@ -1,0 +1,5 @@
+pub mod Meaning
+pub mod Lawful
+pub mod Runs
+pub mod Either
+pub mod Pieces

@@ -1,0 +1,3 @@
+pub mod Verdicts
+pub mod Recipes
+pub mod Packed
