@@ -1,0 +1,14 @@
+pub mod Basics
+pub mod Bits
+pub mod Laid
+pub mod Ids
+pub mod Finds
+pub mod Cuts
+pub mod Removals
+pub mod Placings
+pub mod Joins
+pub mod Insertions
+pub mod Readings
+pub mod Quotes
+pub mod Runs
+pub mod Laws

@@ -1,0 +1,9 @@
+pub mod Plain
+pub mod Faces
+pub mod Joins
+pub mod Changes
+pub mod Runs
+pub mod Finds
+pub mod Readings
+pub mod Quotes
+pub mod Laws
