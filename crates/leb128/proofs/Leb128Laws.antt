@@ -1,19 +1,18 @@
-use mathlib.Core.Path.{_≡_, refl, sym, _∙_, ap, subst}
+use mathlib.Core.Path.{_≡_, refl, sym, _∙_, ap}
 use mathlib.Core.List.{List, [], _∷_, _++_, reverse}
-use mathlib.Core.Logic.{_⊎_, inl, inr}
-use mathlib.Core.Bool.{Bool, true, false, cond}
+use mathlib.Core.Logic.{inl, inr}
+use mathlib.Core.Bool.{true, false}
 use Prim.Native.Nat.{ℕ, zero, suc, _+_, _*_, _/_, _%_, _^_, _<_, _≤_}
 use native.Mathlib.Omega.{arith}
 use native.Mathlib.Nat.{pow-suc}
 use native.Mathlib.Numerals.{add-one}
-use borrow.Author.Needs.{needs}
 use lib.ListN.{length, take, drop, set}
 use lib.Dec.{ltb}
 use Rattle.std.proofs.shelf.Tests.{cases-lt, lt-ltb, le-ltb, cond-false}
 use Rattle.std.specs.shelf.Digits.{digitsOf}
 use Rattle.std.proofs.shelf.Digits.{digitsOf-step}
 use Rattle.std.proofs.shelf.Lists.{reverse-append, append-assoc, take-more-set, drop-set-lt, drop-drop, set-split}
-use Rattle.std.proofs.shelf.Bits.{div-below, le-div}
+use Rattle.std.proofs.shelf.Bits.{div-below}
 use Rattle.leb128.specs.Leb128.{marked, uleb, sumOf, form}
 
 abbrev low : ℕ → List ℕ

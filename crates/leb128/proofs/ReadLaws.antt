@@ -1,20 +1,19 @@
-use mathlib.Core.Path.{_≡_, refl, sym, _∙_, ap, subst}
+use mathlib.Core.Path.{_≡_, refl, sym, _∙_, ap}
 use mathlib.Core.List.{List, [], _∷_, _++_}
 use mathlib.Core.Bool.{Bool, true, false, cond}
 use Prim.Native.Nat.{ℕ, _+_, _-_, _*_, _%_, _^_, _<_, _≤_}
 use native.Mathlib.Omega.{arith}
 use lib.Dec.{ltb, eqb}
-use lib.ListN.{length, take, drop, getD}
+use lib.ListN.{length, drop, getD}
 use Rattle.std.proofs.shelf.Lists.{drop-more}
 use Rattle.std.proofs.shelf.Tests.{ltb-true, eqb-false, lt-ltb, le-ltb, ne-eqb, cond-true, cond-false, cases-lt, both-ways}
 use native.Mathlib.Nat.{mul-add, mul-comm, mul-assoc, add-assoc, pow-suc}
 use native.Mathlib.Numerals.{add-one}
-use mathlib.Core.Logic.{_⊎_, inl, inr}
-use Rattle.leb128.specs.Leb128.{uleb, sumOf, form}
-use Rattle.leb128.proofs.Leb128Laws.{form-uleb, sum-uleb}
+use mathlib.Core.Logic.{inl, inr}
+use Rattle.leb128.specs.Leb128.{sumOf, form}
 use Rattle.leb128.specs.declared.reader.Step.{Step}
 use Rattle.leb128.specs.declared.reader.Step.the-variants.{More, Done, Large}
-use Rattle.leb128.specs.Reading.{Read, done, ends, large, readFrom, reading}
+use Rattle.leb128.specs.Reading.{Read, done, large, readFrom, reading}
 
 -- What reading comes to after a step.
 abbrev pub follow : Step → ℕ → (ℕ → Read) → Read
@@ -104,13 +103,6 @@ accepts most limit p rest f l h =
     let o : 0 + 128 ^ 0 * sumOf p ≡ sumOf p = omega arith in
     from-form most limit 0 0 p rest f (omega arith) (omega arith)
     ∙ (ap (λ q. done q (0 + length p)) o ∙ ap (done (sumOf p)) (omega arith))
-
--- The shortest form of a number below the limit is read back.
-pub reads-uleb : (most limit v : ℕ) (rest : List ℕ) → length (uleb v) ≤ most → v < limit
-    → reading most limit (uleb v ++ rest) ≡ done v (length (uleb v))
-reads-uleb most limit v rest l h =
-    let s : sumOf (uleb v) ≡ v = sum-uleb v in
-    accepts most limit (uleb v) rest (form-uleb v) l (omega arith) ∙ ap (λ q. done q (length (uleb v))) s
 
 done-means : (p q l : Bool) (x v : ℕ) → Done v ≡ cond p (cond q (Done x) (cond l Large (More x))) Large → (p ≡ true) × (v ≡ x)
 done-means false q l x v e = let z : _≡_ {A = ℕ} 0 1 = cc in absurd (omega arith)

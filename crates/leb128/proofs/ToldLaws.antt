@@ -1,15 +1,15 @@
 use mathlib.Core.Path.{_≡_, refl, sym, _∙_, ap, subst}
 use mathlib.Core.List.{List, [], _∷_, _++_}
-use mathlib.Core.Logic.{_⊎_, inl, inr}
-use mathlib.Core.Bool.{Bool, true, false, cond}
-use Prim.Native.Nat.{ℕ, zero, suc, _+_, _-_, _*_, _%_, _^_, _<_, _≤_}
+use mathlib.Core.Logic.{inl, inr}
+use mathlib.Core.Bool.{true, false}
+use Prim.Native.Nat.{ℕ, suc, _+_, _-_, _*_, _%_, _^_, _<_, _≤_}
 use native.Mathlib.Omega.{arith}
 use native.Mathlib.Nat.{mul-assoc, pow-suc, add-assoc}
 use native.Mathlib.Numerals.{add-one}
 use lib.Dec.{ltb, eqb}
 use lib.ListN.{length}
-use Rattle.std.proofs.shelf.Lists.{append-nil, append-assoc, length-append, length-push}
-use Rattle.std.proofs.shelf.Tests.{lt-ltb, le-ltb, eq-eqb, ne-eqb, cond-true, cond-false, cases-lt, cases-eq, both-ways}
+use Rattle.std.proofs.shelf.Lists.{append-nil, append-assoc, length-push}
+use Rattle.std.proofs.shelf.Tests.{lt-ltb, le-ltb, eq-eqb, cond-true, cond-false, cases-lt, cases-eq}
 use Rattle.leb128.specs.Leb128.{sumOf, form}
 use Rattle.leb128.specs.Reading.{Read, done, ends, large, readFrom, reading, goesOn, Reads}
 use Rattle.leb128.proofs.ReadLaws.{at-last, at-more, weigh, goes-on, accepts}
@@ -29,24 +29,21 @@ sum-push (x ∷ p) b =
     let e : (b % 128) * 128 ^ suc (length p) ≡ (b % 128) * 128 ^ length p * 128 = ap (λ q. (b % 128) * q) (pow-suc 128 (length p)) ∙ sym (mul-assoc (b % 128) (128 ^ length p) 128) in
     omega (arith, sum-push p b)
 
-on : (b : ℕ) (t : Bool) → cond (ltb b 128) false t ≡ true → (128 ≤ b) × (t ≡ true)
-on = goes-on
-
 below : (k most : ℕ) → k < most → (k + 1 ≡ most → ⊥) → k + 1 < most
 below k most m z = omega (arith, z)
 
 goes-push : (p : List ℕ) (b : ℕ) → goesOn p ≡ true → 128 ≤ b → goesOn (p ++ (b ∷ [])) ≡ true
 goes-push [] b g h = cond-false (ltb b 128) false true (le-ltb b 128 h)
 goes-push (x ∷ p) b g h =
-    let m = on x (goesOn p) g in
+    let m = goes-on x (goesOn p) g in
     cond-false (ltb x 128) false (goesOn (p ++ (b ∷ []))) (le-ltb x 128 (m .0)) ∙ goes-push p b (m .1) h
 
 form-push : (p : List ℕ) (b : ℕ) → goesOn p ≡ true → b < 128 → form (p ++ (b ∷ [])) ≡ true
 form-push [] b g h = lt-ltb b 128 h
 form-push (x ∷ []) b g h =
-    let m = on x true g in cond-false (ltb x 128) false (ltb b 128) (le-ltb x 128 (m .0)) ∙ lt-ltb b 128 h
+    let m = goes-on x true g in cond-false (ltb x 128) false (ltb b 128) (le-ltb x 128 (m .0)) ∙ lt-ltb b 128 h
 form-push (x ∷ y ∷ p) b g h =
-    let m = on x (goesOn (y ∷ p)) g in
+    let m = goes-on x (goesOn (y ∷ p)) g in
     cond-false (ltb x 128) false (form (y ∷ (p ++ (b ∷ [])))) (le-ltb x 128 (m .0)) ∙ form-push (y ∷ p) b (m .1) h
 
 -- What reading comes to is so defined.
@@ -88,7 +85,7 @@ pass most limit k v [] q g m h =
     let b : v ≡ v + 128 ^ k * 0 = omega arith in
     ap (λ x. readFrom most limit x v q) a ∙ ap (λ x. readFrom most limit (k + 0) x q) b
 pass most limit k v (b ∷ p) q g m h =
-    let o = on b (goesOn p) g in
+    let o = goes-on b (goesOn p) g in
     let d : ℕ = b % 128 in
     let s : ℕ = sumOf p in
     let e : v + 128 ^ k * (d + 128 * s) ≡ (v + d * 128 ^ k) + 128 ^ (k + 1) * s =

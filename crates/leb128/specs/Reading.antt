@@ -1,7 +1,7 @@
 use mathlib.Core.List.{List, [], _∷_, _++_}
 use mathlib.Core.Bool.{Bool, true, false, cond}
 use mathlib.Core.Path.{_≡_}
-use mathlib.Core.Logic.{_⊎_, inl, inr}
+use mathlib.Core.Logic.{_⊎_}
 use Prim.Native.Nat.{ℕ, _+_, _*_, _%_, _^_, _<_, _≤_}
 use lib.ListN.{length, drop}
 use Rattle.leb128.specs.Leb128.{sumOf, form}
@@ -10,7 +10,6 @@ use Rattle.leb128.specs.declared.field.NumberField.{NumberField}
 use Rattle.leb128.specs.Fields.{maxLen, limit}
 use Rattle.std.specs.declared.result.Result.{Result}
 use Rattle.std.specs.declared.result.Result.the-variants.{Ok, Err}
-use Rattle.leb128.specs.declared.fault.NumberCause.{NumberCause}
 use Rattle.leb128.specs.declared.fault.NumberCause.the-variants.{Ends, Large}
 use Rattle.leb128.specs.declared.fault.NumberFault.{NumberFault}
 

@@ -1,9 +1,9 @@
 ghost use mathlib.Core.Path.{_≡_};
-ghost use mathlib.Core.List.{List, _++_};
+ghost use mathlib.Core.List.{_++_};
 ghost use Rattle.std.specs.Options.{mapped};
 ghost use Rattle.std.specs.Vec.{made};
 ghost use Rattle.std.specs.Of.Vec.{vec-items};
-ghost use Rattle.source.specs.Meaning.{idOf, scopeOf, sideOf, startOf, endOf, alike};
+ghost use Rattle.source.specs.Meaning.{idOf, scopeOf, sideOf, startOf, endOf};
 ghost use Rattle.notation.specs.Sides.{clockIn, idIn, scopeIn, sideIn, idText, scopeText, sideText, sourceText};
 use crate::numeral::push_number;
 use crate::numeral::read_number;

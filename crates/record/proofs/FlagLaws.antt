@@ -1,11 +1,10 @@
-use mathlib.Core.Path.{_≡_, refl, sym, _∙_, ap}
-use mathlib.Core.Bool.{Bool, true, false, not}
-use Prim.Native.Nat.{ℕ, zero, suc, _+_, _-_, _*_, _/_, _%_, _^_, _<_, _≤_}
+use mathlib.Core.Path.{_≡_, ap}
+use mathlib.Core.Bool.{not}
+use Prim.Native.Nat.{ℕ, zero, suc, _+_, _-_, _*_, _/_, _%_, _^_, _<_}
 use native.Mathlib.Omega.{arith}
 use lib.Dec.{eqb}
 use lib.Bits.{bitAnd, and-high}
-use Rattle.std.proofs.shelf.Tests.{eq-eqb, ne-eqb, cases-eq}
-use mathlib.Core.Logic.{_⊎_, inl, inr}
+use Rattle.std.proofs.shelf.Tests.{eq-eqb, ne-eqb}
 use Rattle.record.specs.Format.{hasFlag}
 
 mask-told : (n q w : ℕ) → n ≡ q * w → q < 2 → 0 < w → not (eqb n 0) ≡ eqb q 1

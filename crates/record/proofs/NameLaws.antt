@@ -1,4 +1,4 @@
-use mathlib.Core.Path.{_≡_, refl, sym, _∙_, ap, subst}
+use mathlib.Core.Path.{_≡_, refl, sym, _∙_, ap}
 use mathlib.Core.List.{List, [], _∷_, _++_}
 use mathlib.Core.Bool.{Bool, true, false, cond, not, _&&_}
 use Prim.Native.Nat.{ℕ, zero, suc, _+_, _-_, _<_, _≤_}
@@ -10,8 +10,8 @@ use Rattle.std.specs.declared.option.Option.{Option}
 use Rattle.std.specs.declared.option.Option.the-variants.{Some, None}
 use Rattle.std.specs.declared.result.Result.{Result}
 use Rattle.std.specs.declared.result.Result.the-variants.{Ok, Err}
-use Rattle.std.proofs.shelf.Lists.{drop-more, drop-all, take-all}
-use Rattle.std.proofs.shelf.Tests.{cond-true, cond-false, le-leb, leb-true, and-from, and-parts}
+use Rattle.std.proofs.shelf.Lists.{drop-more, drop-all}
+use Rattle.std.proofs.shelf.Tests.{cond-true, le-leb, leb-true, and-from, and-parts}
 use Rattle.leb128.specs.declared.field.NumberField.the-variants.{Count}
 use Rattle.leb128.specs.Reading.{numberAt}
 use Rattle.record.specs.declared.fault.RecordFault.{RecordFault}
@@ -85,16 +85,6 @@ named bs p c =
 pub name-ok : (bs : List ℕ) (p count n : ℕ) → Ok (count, n) ≡ numberAt Count bs p → 0 < count → count ≤ 32
     → nameFault count (drop (p + n) bs) ≡ None → nameAt bs p ≡ Ok (take count (drop (p + n) bs), p + n + count)
 name-ok bs p count n e z h f =
-    ap (λ q. then (lifted q) (named bs p)) (sym e)
-    ∙ (cond-true (nameCount count) _ _ (count-from count z h)
-    ∙ ap (nameHere bs p (p + n) count) f)
-
-pub name-not : (bs : List ℕ) (p count n : ℕ) → Ok (count, n) ≡ numberAt Count bs p → nameCount count ≡ false → nameAt bs p ≡ Err (Own Name p)
-name-not bs p count n e h = ap (λ q. then (lifted q) (named bs p)) (sym e) ∙ cond-false (nameCount count) _ _ h
-
-pub name-bad : (bs : List ℕ) (p count n : ℕ) (c : RecordCause) → Ok (count, n) ≡ numberAt Count bs p → 0 < count → count ≤ 32
-    → nameFault count (drop (p + n) bs) ≡ Some c → nameAt bs p ≡ Err (Own c p)
-name-bad bs p count n c e z h f =
     ap (λ q. then (lifted q) (named bs p)) (sym e)
     ∙ (cond-true (nameCount count) _ _ (count-from count z h)
     ∙ ap (nameHere bs p (p + n) count) f)

@@ -14,7 +14,6 @@ use Rattle.std.specs.declared.result.Result.the-variants.{Ok, Err}
 use Rattle.leb128.specs.declared.fault.NumberFault.{NumberFault}
 use Rattle.record.specs.declared.fault.RecordCause.{RecordCause}
 use Rattle.record.specs.declared.fault.RecordFault.{RecordFault}
-use Rattle.record.specs.declared.fault.RecordFault.the-variants.{Own}
 use Rattle.source.specs.Meaning.{Scope, relative, nested, root, Side}
 use Rattle.leb128.specs.Reading.{Read, done, ends, large, reading, answer, numberAt, Reads}
 use Rattle.leb128.specs.declared.field.NumberField.{NumberField}

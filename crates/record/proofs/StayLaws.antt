@@ -1,7 +1,7 @@
-use mathlib.Core.Path.{_≡_, refl, sym, _∙_, ap, subst}
+use mathlib.Core.Path.{_≡_, refl, _∙_, ap}
 use mathlib.Core.List.{List, [], _∷_, _++_}
-use mathlib.Core.Bool.{Bool, true, false, cond, _&&_}
-use Prim.Native.Nat.{ℕ, zero, suc, _+_, _-_, _<_, _≤_}
+use mathlib.Core.Bool.{Bool, true, false, cond}
+use Prim.Native.Nat.{ℕ, zero, suc, _+_, _-_, _≤_}
 use native.Mathlib.Omega.{arith}
 use lib.Dec.{eqb}
 use lib.ListN.{length, take, drop}
@@ -16,7 +16,7 @@ use Rattle.record.specs.declared.fault.RecordCause.{RecordCause}
 use Rattle.record.specs.declared.fault.RecordCause.the-variants as rec
 use Rattle.record.specs.declared.fault.RecordFault.{RecordFault}
 use Rattle.record.specs.declared.fault.RecordFault.the-variants.{Own}
-use Rattle.source.specs.Meaning.{Scope, relative, nested, root, Side}
+use Rattle.source.specs.Meaning.{Scope, Side}
 use Rattle.leb128.specs.Reading.{Read, done, ends, large, reading, answer, numberAt, Reads}
 use Rattle.leb128.specs.declared.field.NumberField.{NumberField}
 use Rattle.leb128.specs.declared.field.NumberField.the-variants.{Client, Clock, Count}
@@ -29,7 +29,7 @@ use Rattle.record.specs.Settled.{lastNumber, lastOwn, lastRecord, settled}
 use Rattle.record.specs.Forms.{NumberForm}
 use Rattle.leb128.proofs.ToldLaws.{told, only}
 use Rattle.record.proofs.NameLaws.{named, name-within}
-use Rattle.record.proofs.SoundLaws.{Front, number-out, id-out, name-out, scope-out, end-out, lifted-ok}
+use Rattle.record.proofs.SoundLaws.{Front, number-out, scope-out, lifted-ok}
 
 -- One reading after another stays, if each does.
 then-stays : {A B E : Type 0} (last : E → Bool) (x y : Result A E) (f g : A → Result B E) → settled last (then x f) ≡ true

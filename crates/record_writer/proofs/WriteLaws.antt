@@ -1,12 +1,11 @@
-use mathlib.Core.Path.{_≡_, refl, sym, _∙_, ap}
-use mathlib.Core.Bool.{Bool, true, false, cond, _&&_}
-use Prim.Native.Nat.{ℕ, _+_, _<_, _≤_}
-use native.Mathlib.Omega.{arith}
+use mathlib.Core.Path.{_≡_, _∙_}
+use mathlib.Core.Bool.{true, _&&_}
+use Prim.Native.Nat.{ℕ, _+_, _≤_}
 use lib.Dec.{ltb}
 use lib.ListN.{length}
 use Rattle.std.proofs.shelf.Tests.{cond-true, cond-false, and-from, le-ltb}
-use Rattle.std.specs.declared.option.Option.the-variants.{Some, None}
-use Rattle.source.specs.Meaning.{Scope, Side}
+use Rattle.std.specs.declared.option.Option.the-variants.{None}
+use Rattle.source.specs.Meaning.{Side}
 use Rattle.record.specs.Format.{recordOf}
 use Rattle.record_writer.specs.Encoding.{namesFine, clientsFine, refused}
 

@@ -1,9 +1,8 @@
-use mathlib.Core.Path.{_≡_, refl, sym, _∙_, ap}
-use Prim.Native.Nat.{ℕ, _+_, _-_, _*_, _^_, _<_, _≤_}
+use mathlib.Core.Path.{sym, _∙_, ap}
+use Prim.Native.Nat.{_+_, _-_, _*_, _≤_}
 use native.Mathlib.Omega.{arith}
 use native.Mathlib.Nat.{add-assoc, pow-suc, pow-le-pow-right}
 use native.Mathlib.Numerals.{add-one}
-use lib.ListN.{length, drop, getD}
 use Rattle.std.proofs.shelf.Lists.{drop-all}
 use Rattle.leb128.specs.Reading.{reading, readFrom, answer}
 use Rattle.leb128.proofs.ReadLaws.{read-more, step-more, step-done}

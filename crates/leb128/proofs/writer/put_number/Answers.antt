@@ -1,9 +1,9 @@
-use Prim.Native.Nat.{_+_, _/_, _<_, _≤_}
+use Prim.Native.Nat.{_<_}
 use mathlib.Core.Path.{_≡_, refl}
 use native.Mathlib.Omega.{arith}
 use lib.ListN.{length}
 use Rattle.leb128.specs.Leb128.{uleb}
-use Rattle.leb128.proofs.Leb128Laws.{uleb-small, uleb-step, uleb-some, uleb-ten, put-more, put-last}
+use Rattle.leb128.proofs.Leb128Laws.{uleb-small, uleb-some, uleb-ten, put-more, put-last}
 use Rattle.leb128.proofs.writer.put_number.Needs as need
 
 pub index-part-n : need.index-part-n

@@ -1,9 +1,8 @@
-use mathlib.Core.Path.{_≡_, refl, sym, _∙_, ap}
-use mathlib.Core.Bool.{cond}
-use Prim.Native.Nat.{ℕ, _+_, _-_, _<_, _≤_}
+use mathlib.Core.Path.{_≡_, sym, _∙_, ap}
+use Prim.Native.Nat.{_+_, _-_}
 use native.Mathlib.Omega.{arith}
 use native.Mathlib.Nat.{add-assoc}
-use lib.ListN.{length, drop}
+use lib.ListN.{drop}
 use Rattle.record.specs.Decoding.{nameFault}
 use Rattle.std.proofs.shelf.Tests.{cond-true, cond-false}
 use Rattle.record.proofs.NameLaws.{name-next, name-ends}

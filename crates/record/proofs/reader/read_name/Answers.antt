@@ -1,8 +1,8 @@
-use mathlib.Core.Path.{_≡_, refl, sym, _∙_, ap}
-use Prim.Native.Nat.{ℕ, _+_, _-_, _<_, _≤_}
+use mathlib.Core.Path.{_≡_, sym, _∙_, ap}
+use Prim.Native.Nat.{ℕ, _+_, _-_}
 use native.Mathlib.Omega.{arith}
-use lib.ListN.{length, drop, take, length-drop}
-use Rattle.std.specs.declared.result.Result.the-variants.{Ok, Err}
+use lib.ListN.{drop, take, length-drop}
+use Rattle.std.specs.declared.result.Result.the-variants.{Ok}
 use Rattle.record.proofs.NameLaws.{name-ok, name-within}
 use Rattle.record.proofs.reader.read_name.Needs as need
 

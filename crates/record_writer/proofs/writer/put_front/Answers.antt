@@ -1,11 +1,10 @@
-use mathlib.Core.Path.{_≡_, refl, sym, _∙_, ap}
-use mathlib.Core.List.{List, [], _∷_, _++_}
-use Prim.Native.Nat.{ℕ, _+_, _-_, _<_, _≤_}
+use mathlib.Core.List.{[], _∷_}
+use Prim.Native.Nat.{_-_}
 use native.Mathlib.Omega.{arith}
-use lib.ListN.{length, drop, take, length-append, length-drop}
+use lib.ListN.{length-drop}
 use Rattle.std.proofs.shelf.Lists.{take-rest}
-use Rattle.source.specs.Meaning.{scopeOf, sideOf}
-use Rattle.record.specs.Format.{scopeBytes, frontBytes, endBytes, single, flags, recordOf}
+use Rattle.source.specs.Meaning.{scopeOf}
+use Rattle.record.specs.Format.{scopeBytes}
 use Rattle.leb128.proofs.PartLaws.{put-then}
 use Rattle.record_writer.proofs.writer.put_front.Needs as need
 

@@ -1,7 +1,6 @@
-use mathlib.Core.Path.{_≡_, refl, sym, _∙_, ap}
-use Prim.Native.Nat.{ℕ, _+_, _-_, _<_, _≤_}
+use Prim.Native.Nat.{_-_}
 use native.Mathlib.Omega.{arith}
-use lib.ListN.{length, drop, take, length-append, length-drop}
+use lib.ListN.{length-append, length-drop}
 use Rattle.leb128.specs.Leb128.{uleb}
 use Rattle.std.proofs.shelf.Lists.{take-rest}
 use Rattle.leb128.proofs.PartLaws.{put-then}

@@ -1,12 +1,12 @@
-use mathlib.Core.Path.{_≡_, refl, sym, _∙_, ap}
-use mathlib.Core.List.{List, [], _∷_, _++_}
+use mathlib.Core.Path.{_≡_, _∙_, ap}
+use mathlib.Core.List.{List, _++_}
 use mathlib.Core.Bool.{Bool}
-use Prim.Native.Nat.{ℕ, _+_, _-_, _<_, _≤_}
+use Prim.Native.Nat.{ℕ, _+_, _-_}
 use native.Mathlib.Omega.{arith}
-use lib.ListN.{length, drop, take, length-append, length-drop}
+use lib.ListN.{length, drop, length-append, length-drop}
 use Rattle.std.proofs.shelf.Lists.{take-rest}
 use Rattle.source.specs.Meaning.{scopeOf, sideOf}
-use Rattle.record.specs.Format.{scopeBytes, frontBytes, endBytes, single, flags, recordOf}
+use Rattle.record.specs.Format.{scopeBytes, frontBytes, endBytes, single, flags}
 use Rattle.leb128.proofs.PartLaws.{put-then}
 use Rattle.record_writer.proofs.writer.put_record.Needs as need
 

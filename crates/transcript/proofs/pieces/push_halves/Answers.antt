@@ -1,4 +1,4 @@
-use mathlib.Core.Path.{_≡_, _∙_, ap}
+use mathlib.Core.Path.{_∙_, ap}
 use native.Mathlib.Omega.{arith}
 use Rattle.std.proofs.shelf.Results.{made-weaker}
 use Rattle.transcript.proofs.PieceLaws.{pieces-units, halves-told}
