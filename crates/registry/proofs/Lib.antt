@@ -1,0 +1,6 @@
+mod ClientLaws
+mod Gathering
+mod LinkLaws
+mod NameLaws
+mod NamesLaws
+mod PlaceLaws

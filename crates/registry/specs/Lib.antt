@@ -1,0 +1,5 @@
+pub mod Clients
+pub mod Links
+pub mod Name
+pub mod Names
+pub mod Places
