@@ -1,4 +1,6 @@
 //! Contents: what a content kind means, its laws, and the kinds that are supplied.
+#![tactic(auto)]
+
 pub mod clip_run;
 pub mod content;
 pub mod cutting;

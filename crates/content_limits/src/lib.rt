@@ -1,4 +1,6 @@
 //! The makings and the kinds at their limits, case by case.
+#![tactic(auto)]
+
 #[cfg(test)]
 mod tests {
     use content::clip_run::ClipRun;

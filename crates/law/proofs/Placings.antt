@@ -1,6 +1,6 @@
 -- Placing and withdrawing keep the law.
 use Rattle.std.proofs.Common.{◌≡◌, ℕ, ◌+◌, ◌-◌, ◌^◌, ◌<◌, ◌≤◌, Bool, true, false, ◌&&◌, ◌||◌, eqb, List, ◌++◌, map, length, Some, None, Option, sym, refl, ap, ◌∙◌, subst, inl, inr, arith, length-append}
-use mathlib.Core.Bool.{and-false, and-true, or_false}
+use mathlib.Core.Bool.{and-false, and-true, or-false}
 use lib.Bits.{bit_and}
 use Rattle.std.proofs.ByRecursion.{All-map}
 use Rattle.std.proofs.lemmas.Bool.{cases_lt, cases_eq, eq-eqb, ne_eqb}
@@ -53,7 +53,7 @@ module _ (p : Plain) (n : ℕ) (s : Source) (none : p.links n ≡ None) where
       → held (after p (Placed n s)) s.list k q ≡ (held p s.list k q || (eqb k n && b))
   placed-here q b h k = elim (cases_eq k n) [
     | inl e ↦ rw (eq-eqb k n e, e, none, eq-eqb s.list s.list refl) h
-    | inr e ↦ rw (ne_eqb k n e) (sym (or_false (held p s.list k q)))
+    | inr e ↦ rw (ne_eqb k n e) (sym (or-false (held p s.list k q)))
   ]
 
 -- the part of the law that speaks of links alone
@@ -79,7 +79,7 @@ place_keeps F p n s xs ms ys law able there =
     let two : length (laid (xs ++ ms)) ≡ length (laid xs) + length (laid ms) = ap length (laid-append xs ms) ∙ length-append (laid xs) (laid ms) in
     let X : List Entry = p.lists l in
     let off : (q : ℕ) → within s X q ≡ false → (k : ℕ) → J l k q ≡ J' l k q
-    = λ q o k. sym (placed-here p n s able.free q false o k ∙ ap (λ z. J l k q || z) (and-false (eqb k n)) ∙ or_false (J l k q)) in
+    = λ q o k. sym (placed-here p n s able.free q false o k ∙ ap (λ z. J l k q || z) (and-false (eqb k n)) ∙ or-false (J l k q)) in
     record {
       holds = put_each (λ m z. laid z ≡ p.lists m) l _ F
           (laid-three xs (map (marked n) ms) ys ∙ ap (λ r. laid xs ++ (r ++ laid ys)) (laid-map (marked n) (λ f. refl) ms)
@@ -107,7 +107,7 @@ place_empty_keeps F p n s law able cross =
     let J : ℕ → ℕ → ℕ → Bool = held p in
     let J' : ℕ → ℕ → ℕ → Bool = held p' in
     let here : (k q : ℕ) → J s.list k q ≡ J' s.list k q
-    = λ k q. sym (placed-here p n s able.free q false (crossed _ _ q cross) k ∙ ap (λ z. J s.list k q || z) (and-false (eqb k n)) ∙ or_false (J s.list k q)) in
+    = λ k q. sym (placed-here p n s able.free q false (crossed _ _ q cross) k ∙ ap (λ z. J s.list k q || z) (and-false (eqb k n)) ∙ or-false (J s.list k q)) in
     record {
       holds = law.holds;
       filled = law.filled;

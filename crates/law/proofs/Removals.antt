@@ -1,7 +1,7 @@
 -- A removal keeps the law, shortens its list and answers the right links.
 use Rattle.std.proofs.Common.{◌≡◌, ℕ, suc, ◌+◌, ◌-◌, ◌<◌, ◌≤◌, min, max, Bool, true, false, cond, not, ◌&&◌, ◌||◌, ltb, leb, ◌⊎◌, List, [], ◌∷◌, ◌++◌, map, length, sym, refl, ap, ◌∙◌, subst, inl, inr, add-zero, arith}
 use mathlib.Core.Path.{fun_ext}
-use mathlib.Core.Bool.{and-false, and-not_self, or_false, or_self, or_assoc}
+use mathlib.Core.Bool.{and-false, and-not_self, or-false, or_self, or_assoc}
 use lib.Bits.{bit_or}
 use Rattle.std.proofs.lemmas.List.{map-append}
 use Rattle.std.proofs.lemmas.Bool.{cases_Bool, cases_lt, le-leb, lt-leb, lt-ltb, le-ltb}
@@ -153,7 +153,7 @@ hides_append I at (a ∷ A) (b ∷ B) X Y h =
 -- a run of visible entries, all alike to the test
 hides_run : (I : ℕ → Bool) (b : Bool) (at : ℕ) (a : Id) (u : ℕ) (us : List ℕ) → ((q : ℕ) → at ≤ q → q < at + suc (length us) → b ≡ I q)
     → hides_any I at (entries_of a true false (u ∷ us)) (entries_of a true true (u ∷ us)) ≡ b
-hides_run I b at a u [] h = rw (← h at (omega arith) (omega arith)) (or_false b)
+hides_run I b at a u [] h = rw (← h at (omega arith) (omega arith)) (or-false b)
 hides_run I b at a u (w ∷ us) h =
     let r = hides_run I b (suc at) (record { client = a.client; clock = suc a.clock }) w us (λ q lo hi. h q (omega arith) (omega arith)) in
     rw (← h at (omega arith) (omega arith)) (ap (λ t. b || t) r ∙ or_self b)
@@ -194,7 +194,7 @@ remove_answers F p l i n xs ms ys law taking k =
     ∙ ap (λ z. z || hides_any (J k) (0 + length (laid xs)) (laid ms ++ laid ys) (laid (map struck ms) ++ laid ys)) (hides_same (J k) 0 (laid xs))
     ∙ hides_append (J k) (0 + length (laid xs)) (laid ms) (laid (map struck ms)) (laid ys) (laid ys) (sym long)
     ∙ ap (λ z. hides_any (J k) (0 + length (laid xs)) (laid ms) (laid (map struck ms)) || z) (hides_same (J k) _ (laid ys))
-    ∙ or_false _ ∙ hides_faces J k (0 + length (laid xs)) ms (all_left _ ms ys fr) (linked_left J _ ms ys lr))
+    ∙ or-false _ ∙ hides_faces J k (0 + length (laid xs)) ms (all_left _ ms ys fr) (linked_left J _ ms ys lr))
 
 -- how many visible entries are left
 seen-remove_from : (i n v : ℕ) (X : List Entry) → seen (remove_from i n v X) + (min (i + n) (v + seen X) - max i v) ≡ seen X

@@ -1,4 +1,5 @@
 //! The law of the rundown, above the blocks: what a run of calls makes of the plain lists, and that faces hold just that.
+#![tactic(auto)]
 
 ghost use Rattle.law.specs.Laws.{Laws};
 

@@ -1,4 +1,5 @@
 //! The unsigned LEB128 numbers of the DWARF standard, written in their shortest form and read byte by byte.
+#![tactic(auto)]
 
 pub mod fault;
 pub mod field;

@@ -1,4 +1,5 @@
 //! What a line of a script asks for.
+#![tactic(auto)]
 
 mod contents;
 pub mod line;

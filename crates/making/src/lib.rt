@@ -1,4 +1,6 @@
 //! Makings: contents of any kind from recipes, appended to a lent table of words.
+#![tactic(auto)]
+
 pub mod kinds;
 pub mod make;
 pub mod packing;

@@ -1,4 +1,5 @@
 //! The words of the script language: decimal and hexadecimal numbers, ids and sources, as text and back.
+#![tactic(auto)]
 
 pub mod hex;
 pub mod numeral;

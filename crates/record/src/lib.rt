@@ -1,4 +1,5 @@
 //! The weak-link record: its format, and a reader that takes every form of it.
+#![tactic(auto)]
 
 pub mod fault;
 mod flags;

@@ -1,4 +1,5 @@
 //! Examples of numbers and records, with values from the DWARF standard and from the format's description.
+#![tactic(auto)]
 
 #[cfg(test)]
 mod tests {

@@ -1,4 +1,5 @@
 //! The writer of weak-link records, which the reader gives back.
+#![tactic(auto)]
 
 pub mod fault;
 mod flags;

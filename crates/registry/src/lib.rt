@@ -1,4 +1,5 @@
 //! What a document keeps beside its blocks and words: the names of its open lists, and its clients with their counts.
+#![tactic(auto)]
 
 pub mod clients;
 pub mod links;

@@ -1,4 +1,5 @@
 //! The registers of lists and clients at their limits, and the link set of a new block.
+#![tactic(auto)]
 
 #[cfg(test)]
 mod tests {

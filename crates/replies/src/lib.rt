@@ -1,4 +1,5 @@
 //! The texts of a script's answers.
+#![tactic(auto)]
 
 pub mod blocks;
 pub mod calls;

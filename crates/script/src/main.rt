@@ -1,4 +1,5 @@
 //! Reads a script from standard input, and prints its transcript.
+#![tactic(auto)]
 
 use std::io;
 use std::io::{Read, Write};

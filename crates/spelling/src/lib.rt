@@ -1,4 +1,5 @@
 //! How the script language spells ids, sources and contents: as text and back.
+#![tactic(auto)]
 
 pub mod side;
 pub mod wanted;

@@ -1,4 +1,5 @@
 //! Runs the scripts of an independent model, whose answers are the expected output.
+#![tactic(auto)]
 
 use std::io;
 use std::io::{Read, Write};
