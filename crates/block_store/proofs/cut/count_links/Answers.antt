@@ -11,8 +11,8 @@ within g c =
     let at = c.in-Some.ensures in
     cell-within c.args.blocks.now at.list (front_of c.args.fronts.now at.list) (c.requires.shape.stands at.list) at.found.pre c.in-Some.i at.found.face at.found.post at.found.parts
 
-pub offset-bounds-blocks-i : goal.offset-bounds-blocks-i
-offset-bounds-blocks-i g c = let lt : c.in-Some.i < length c.args.blocks.now = within g c in omega arith
+pub offset_bounds-blocks-i : goal.offset_bounds-blocks-i
+offset_bounds-blocks-i g c = let lt : c.in-Some.i < length c.args.blocks.now = within g c in omega arith
 
 pub bounds-blocks-i : goal.bounds-blocks-i
 bounds-blocks-i g c = within g c

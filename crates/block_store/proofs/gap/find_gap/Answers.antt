@@ -13,8 +13,8 @@ within g c =
     G.cell-within c.args.blocks.now c.args.l (front_of c.args.fronts.now c.args.l) (c.requires.shape.shape.stands c.args.l)
     q.pre c.in-After.i q.face q.post q.parts
 
-pub offset-bounds-blocks-i : goal.offset-bounds-blocks-i
-offset-bounds-blocks-i g c = let lt = within g c in omega arith
+pub offset_bounds-blocks-i : goal.offset_bounds-blocks-i
+offset_bounds-blocks-i g c = let lt = within g c in omega arith
 
 pub bounds-blocks-i : goal.bounds-blocks-i
 bounds-blocks-i g c = within g c

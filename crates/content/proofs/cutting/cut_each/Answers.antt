@@ -6,8 +6,8 @@ use Rattle.content.proofs.cutting.cut_each.Goals as goal
 pub loop-i-init : goal.loop-i-init
 loop-i-init g c = record { rise = c.requires.rise; sizes = add-zero (g.C.Content.size c.args.content.now); exact = refl }
 
-pub overflow-sub-offsets : goal.overflow-sub-offsets
-overflow-sub-offsets g c =
+pub overflow_sub-offsets : goal.overflow_sub-offsets
+overflow_sub-offsets g c =
     let lt : c.loop-i.i < length c.args.offsets.now = omega arith in
     let n = next g.C.Content c.args.content.now c.args.offsets.now c.loop-i.i c.loop-i.rest c.loop-i.done c.loop-i.pieces c.loop-i.invariant lt in
     omega arith

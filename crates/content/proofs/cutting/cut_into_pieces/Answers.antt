@@ -11,7 +11,7 @@ returns g c =
     let x = c.args.content.now in
     let ks = c.args.offsets.now in
     let n = K.size x in
-    let ps = c.cut-each.new.pieces in
+    let ps = c.cut_each.new.pieces in
     let room = length c.args.pieces.now in
     let laws : Lawful K =
     record { sized = g.met.C.Content.sized; steady = g.met.C.Content.steady; halves = g.met.C.Content.halves } in
@@ -19,7 +19,7 @@ returns g c =
     let up : rising 0 ks n ≡ true = cc in
     record {
       answer = sym (and_from (rising 0 ks n) (eqb room (length ks + 1)) up (eq-eqb room (length ks + 1) c.if-pieces-offsets.false));
-      written = c.cut-each.ensures;
-      sized = λ _. all-sized K laws x ks up ps c.cut-each.ensures;
-      whole = λ _. all_whole K laws x ks up ps c.cut-each.ensures;
+      written = c.cut_each.ensures;
+      sized = λ _. all-sized K laws x ks up ps c.cut_each.ensures;
+      whole = λ _. all_whole K laws x ks up ps c.cut_each.ensures;
     }

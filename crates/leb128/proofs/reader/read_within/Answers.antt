@@ -29,8 +29,8 @@ returns-in-Large c =
       within = tt;
     }
 
-pub overflow-mul-weight : goal.overflow-mul-weight
-overflow-mul-weight c =
+pub overflow_mul-weight : goal.overflow_mul-weight
+overflow_mul-weight c =
     let m = step_more c.loop-count.value c.loop-count.weight _ (c.loop-count.count + 1) c.args.most c.args.below _ c.in-More.ensures in
     let k : c.loop-count.count ≤ 8 = omega (arith, m.1) in
     omega (arith, pow-le-pow_right {n = 128} (omega arith) k, c.loop-count.invariant.1)

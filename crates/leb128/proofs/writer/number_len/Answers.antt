@@ -3,8 +3,8 @@ use Rattle.leb128.specs.Leb128.{uleb}
 use Rattle.leb128.proofs.Leb128Laws.{uleb_small, uleb_step, uleb_ten}
 use Rattle.leb128.proofs.writer.number_len.Goals as goal
 
-pub overflow-add-len : goal.overflow-add-len
-overflow-add-len c = omega (arith, uleb_ten c.args.value c.ranges.value.fits)
+pub overflow_add-len : goal.overflow_add-len
+overflow_add-len c = omega (arith, uleb_ten c.args.value c.ranges.value.fits)
 
 pub loop-rest-preserved : goal.loop-rest-preserved
 loop-rest-preserved c =

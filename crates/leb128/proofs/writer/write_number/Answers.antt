@@ -5,7 +5,7 @@ use Rattle.leb128.proofs.writer.write_number.Goals as goal
 
 pub returns : goal.returns
 returns c = (
-  c.put-number.ensures.count,
-  omega (arith, c.put-number.ensures.count),
-  put_written c.args.buf.now c.put-number.new.part (uleb c.args.value) c.args.«at» c.put-number.ensures.bytes,
+  c.put_number.ensures.count,
+  omega (arith, c.put_number.ensures.count),
+  put_written c.args.buf.now c.put_number.new.part (uleb c.args.value) c.args.«at» c.put_number.ensures.bytes,
 )

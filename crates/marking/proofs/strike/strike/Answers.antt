@@ -15,19 +15,19 @@ returns-then-left-eq0 g c = λ w. S.strike-done w (c.loop-cur.invariant w) c.if-
 pub bounds-blocks-i : goal.bounds-blocks-i
 bounds-blocks-i g c = S.strike-within c.requires (c.loop-cur.invariant c.requires) c.in-Some.is (omega arith)
 
-pub offset-bounds-blocks-i : goal.offset-bounds-blocks-i
-offset-bounds-blocks-i g c = let lt : c.in-Some.i < length c.args.blocks.now = omega (arith, bounds-blocks-i g c) in search rules
+pub offset_bounds-blocks-i : goal.offset_bounds-blocks-i
+offset_bounds-blocks-i g c = let lt : c.in-Some.i < length c.args.blocks.now = omega (arith, bounds-blocks-i g c) in search rules
 
-pub overflow-sub-left : goal.overflow-sub-left
-overflow-sub-left g c =
+pub overflow_sub-left : goal.overflow_sub-left
+overflow_sub-left g c =
     let le = S.strike-enough c.requires (c.loop-cur.invariant c.requires) c.in-Some.is (omega arith) c.index-blocks-i.is c.if-not-b.true (sym c.countable.ensures ∙ c.if-countable.true) in
     omega arith
 
 pub bounds-blocks-i-then-countable : goal.bounds-blocks-i-then-countable
 bounds-blocks-i-then-countable g c = S.strike-within c.requires (c.loop-cur.invariant c.requires) c.in-Some.is (omega arith)
 
-pub offset-bounds-blocks-i-then-countable : goal.offset-bounds-blocks-i-then-countable
-offset-bounds-blocks-i-then-countable g c = let lt : c.in-Some.i < length c.args.blocks.now = omega (arith, bounds-blocks-i-then-countable g c) in search rules
+pub offset_bounds-blocks-i-then-countable : goal.offset_bounds-blocks-i-then-countable
+offset_bounds-blocks-i-then-countable g c = let lt : c.in-Some.i < length c.args.blocks.now = omega (arith, bounds-blocks-i-then-countable g c) in search rules
 
 pub loop-cur-smaller-then-countable : goal.loop-cur-smaller-then-countable
 loop-cur-smaller-then-countable g c =

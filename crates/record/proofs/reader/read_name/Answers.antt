@@ -2,8 +2,8 @@ use Rattle.std.proofs.Common.{◌≡◌, ℕ, ◌+◌, ◌-◌, take, drop, Ok, 
 use Rattle.record.proofs.NameLaws.{name_ok, name_within}
 use Rattle.record.proofs.reader.read_name.Goals as goal
 
-pub slice-bounds-result-end : goal.slice-bounds-result-end
-slice-bounds-result-end c =
+pub slice_bounds-result-end : goal.slice_bounds-result-end
+slice_bounds-result-end c =
     let w = name_within c.in-ok-count.count (drop (c.args.«at» + c.in-ok-count.n) c.args.bytes.now) (sym c.in-None.ensures) in
     omega (arith, w, length-drop (c.args.«at» + c.in-ok-count.n) c.args.bytes.now)
 

@@ -7,11 +7,11 @@ use Rattle.record_writer.proofs.writer.put_id.Goals as goal
 pub put-number-n-requires : goal.put-number-n-requires
 put-number-n-requires c = omega (arith, length-append (uleb c.args.id.client) (uleb c.args.id.clock))
 
-pub slice-bounds-put-number-count : goal.slice-bounds-put-number-count
-slice-bounds-put-number-count c = omega (arith, c.put-number-n.ensures.count, length-append (uleb c.args.id.client) (uleb c.args.id.clock))
+pub slice_bounds-put_number-count : goal.slice_bounds-put_number-count
+slice_bounds-put_number-count c = omega (arith, c.put-number-n.ensures.count, length-append (uleb c.args.id.client) (uleb c.args.id.clock))
 
-pub slice-bounds-put-number-start : goal.slice-bounds-put-number-start
-slice-bounds-put-number-start c = omega (arith, c.put-number-n.ensures.count, length-append (uleb c.args.id.client) (uleb c.args.id.clock))
+pub slice_bounds-put_number-start : goal.slice_bounds-put_number-start
+slice_bounds-put_number-start c = omega (arith, c.put-number-n.ensures.count, length-append (uleb c.args.id.client) (uleb c.args.id.clock))
 
 pub put-number-requires : goal.put-number-requires
 put-number-requires c =

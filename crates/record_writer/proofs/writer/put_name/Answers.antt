@@ -7,11 +7,11 @@ use Rattle.record_writer.proofs.writer.put_name.Goals as goal
 pub put-number-n-requires : goal.put-number-n-requires
 put-number-n-requires c = omega (arith, length-append (uleb (length c.args.name.now)) c.args.name.now)
 
-pub slice-bounds-put-bytes-count : goal.slice-bounds-put-bytes-count
-slice-bounds-put-bytes-count c = omega (arith, c.put-number-n.ensures.count, length-append (uleb (length c.args.name.now)) c.args.name.now)
+pub slice_bounds-put_bytes-count : goal.slice_bounds-put_bytes-count
+slice_bounds-put_bytes-count c = omega (arith, c.put-number-n.ensures.count, length-append (uleb (length c.args.name.now)) c.args.name.now)
 
-pub slice-bounds-put-bytes-start : goal.slice-bounds-put-bytes-start
-slice-bounds-put-bytes-start c = omega (arith, c.put-number-n.ensures.count, length-append (uleb (length c.args.name.now)) c.args.name.now)
+pub slice_bounds-put_bytes-start : goal.slice_bounds-put_bytes-start
+slice_bounds-put_bytes-start c = omega (arith, c.put-number-n.ensures.count, length-append (uleb (length c.args.name.now)) c.args.name.now)
 
 pub put-bytes-requires : goal.put-bytes-requires
 put-bytes-requires c =

@@ -8,19 +8,19 @@ use Rattle.record_writer.proofs.writer.put_record.Goals as goal
 pub put-front-n-requires : goal.put-front-n-requires
 put-front-n-requires c = omega (arith, length-append (scope_bytes (scope_of c.args.start.scope)) (end_bytes (single (scope_of c.args.start.scope) (scope_of c.args.end.scope)) (scope_of c.args.end.scope)))
 
-pub slice-bounds-put-end-count : goal.slice-bounds-put-end-count
-slice-bounds-put-end-count c = omega (arith, c.put-front-n.ensures.count, length-append (scope_bytes (scope_of c.args.start.scope)) (end_bytes (single (scope_of c.args.start.scope) (scope_of c.args.end.scope)) (scope_of c.args.end.scope)))
+pub slice_bounds-put_end-count : goal.slice_bounds-put_end-count
+slice_bounds-put_end-count c = omega (arith, c.put-front-n.ensures.count, length-append (scope_bytes (scope_of c.args.start.scope)) (end_bytes (single (scope_of c.args.start.scope) (scope_of c.args.end.scope)) (scope_of c.args.end.scope)))
 
-pub slice-bounds-put-end-start : goal.slice-bounds-put-end-start
-slice-bounds-put-end-start c = omega (arith, c.put-front-n.ensures.count, length-append (scope_bytes (scope_of c.args.start.scope)) (end_bytes (single (scope_of c.args.start.scope) (scope_of c.args.end.scope)) (scope_of c.args.end.scope)))
+pub slice_bounds-put_end-start : goal.slice_bounds-put_end-start
+slice_bounds-put_end-start c = omega (arith, c.put-front-n.ensures.count, length-append (scope_bytes (scope_of c.args.start.scope)) (end_bytes (single (scope_of c.args.start.scope) (scope_of c.args.end.scope)) (scope_of c.args.end.scope)))
 
 pub put-end-requires : goal.put-end-requires
 put-end-requires c =
     let e : length (end_bytes c.is-single.result (scope_of c.args.end.scope)) ≡ length (end_bytes (single (scope_of c.args.start.scope) (scope_of c.args.end.scope)) (scope_of c.args.end.scope)) = ap (λ t. length (end_bytes t (scope_of c.args.end.scope))) c.is-single.ensures in
     rw take_rest (omega (arith, length-drop c.put-front-n.result c.put-front-n.new.part, c.put-front-n.ensures.count, length-append (scope_bytes (scope_of c.args.start.scope)) (end_bytes (single (scope_of c.args.start.scope) (scope_of c.args.end.scope)) (scope_of c.args.end.scope))))
 
-pub overflow-add-result : goal.overflow-add-result
-overflow-add-result c =
+pub overflow_add-result : goal.overflow_add-result
+overflow_add-result c =
     let e : length (end_bytes c.is-single.result (scope_of c.args.end.scope)) ≡ length (end_bytes (single (scope_of c.args.start.scope) (scope_of c.args.end.scope)) (scope_of c.args.end.scope)) = ap (λ t. length (end_bytes t (scope_of c.args.end.scope))) c.is-single.ensures in
     omega (arith, c.put-front-n.ensures.count, c.put-end.ensures.count, length-append (scope_bytes (scope_of c.args.start.scope)) (end_bytes (single (scope_of c.args.start.scope) (scope_of c.args.end.scope)) (scope_of c.args.end.scope)))
 

@@ -6,8 +6,8 @@ use Rattle.table.proofs.gap.right_edge.Goals as goal
 pub returns-in-None : goal.returns-in-None
 returns-in-None g c = E.right-none c.args.blocks.now c.args.right c.in-None.is
 
-pub offset-bounds-blocks-i : goal.offset-bounds-blocks-i
-offset-bounds-blocks-i g c = let lt : c.in-Some.i < length c.args.blocks.now = subst (λ o. Within c.args.blocks.now o) c.in-Some.is c.requires in search rules
+pub offset_bounds-blocks-i : goal.offset_bounds-blocks-i
+offset_bounds-blocks-i g c = let lt : c.in-Some.i < length c.args.blocks.now = subst (λ o. Within c.args.blocks.now o) c.in-Some.is c.requires in search rules
 
 pub bounds-blocks-i : goal.bounds-blocks-i
 bounds-blocks-i g c = subst (λ o. Within c.args.blocks.now o) c.in-Some.is c.requires

@@ -9,8 +9,8 @@ use Rattle.table.proofs.lookup.find.Goals.{else-b-id-via-then-b-id+then-b-id-2+e
 pub loop-cur-init : goal.loop-cur-init
 loop-cur-init g c = (W.walk_start c.requires, tt)
 
-pub offset-bounds-blocks-i : goal.offset-bounds-blocks-i
-offset-bounds-blocks-i g c = let lt : c.in-Some.i < length c.args.blocks.now = W.walk-within c.loop-cur.invariant.0 c.in-Some.is in omega arith
+pub offset_bounds-blocks-i : goal.offset_bounds-blocks-i
+offset_bounds-blocks-i g c = let lt : c.in-Some.i < length c.args.blocks.now = W.walk-within c.loop-cur.invariant.0 c.in-Some.is in omega arith
 
 pub bounds-blocks-i : goal.bounds-blocks-i
 bounds-blocks-i g c = W.walk-within c.loop-cur.invariant.0 c.in-Some.is
@@ -45,4 +45,4 @@ loop-cur-preserved g c = (
 )
 
 pub returns : goal.returns
-returns g c = subst (λ xs. Lacks g.C.Content c.args.id xs) (sym (W.walk_end c.loop-cur.invariant.0 c.in-default.is)) c.loop-cur.invariant.1
+returns g c = subst (λ xs. Lacks g.C.Content c.args.id xs) (sym (W.walk_end c.loop-cur.invariant.0 c.in_default.is)) c.loop-cur.invariant.1

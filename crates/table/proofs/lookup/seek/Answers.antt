@@ -9,8 +9,8 @@ use Rattle.table.proofs.lookup.seek.Goals.{else-not-b-via-then-not-b+else-counta
 pub loop-cur-init : goal.loop-cur-init
 loop-cur-init g c = (W.walk_start c.requires, omega arith, omega arith)
 
-pub offset-bounds-blocks-i : goal.offset-bounds-blocks-i
-offset-bounds-blocks-i g c = let lt : c.in-Some.i < length c.args.blocks.now = W.walk-within c.loop-cur.invariant.0 c.in-Some.is in omega arith
+pub offset_bounds-blocks-i : goal.offset_bounds-blocks-i
+offset_bounds-blocks-i g c = let lt : c.in-Some.i < length c.args.blocks.now = W.walk-within c.loop-cur.invariant.0 c.in-Some.is in omega arith
 
 pub bounds-blocks-i : goal.bounds-blocks-i
 bounds-blocks-i g c = W.walk-within c.loop-cur.invariant.0 c.in-Some.is
@@ -67,4 +67,4 @@ pub returns : goal.returns
 returns g c =
     let some = c.loop-cur.invariant.1 in
     let sum = c.loop-cur.invariant.2 in
-    subst (λ xs. visible g.C.Content xs < c.args.index) (sym (W.walk_end c.loop-cur.invariant.0 c.in-default.is)) (omega arith)
+    subst (λ xs. visible g.C.Content xs < c.args.index) (sym (W.walk_end c.loop-cur.invariant.0 c.in_default.is)) (omega arith)

@@ -3,14 +3,14 @@ use Rattle.table.proofs.Afters.{within_all}
 use Rattle.table.proofs.Splices as S
 use Rattle.table.proofs.splice.splice_in.Goals as goal
 
-pub offset-bounds-blocks-i : goal.offset-bounds-blocks-i
-offset-bounds-blocks-i g c = let lt : c.in-Some.i < length c.args.blocks.now = S.i-within c.requires c.in-Some.is in search rules
+pub offset_bounds-blocks-i : goal.offset_bounds-blocks-i
+offset_bounds-blocks-i g c = let lt : c.in-Some.i < length c.args.blocks.now = S.i-within c.requires c.in-Some.is in search rules
 
 pub bounds-blocks-i : goal.bounds-blocks-i
 bounds-blocks-i g c = S.i-within c.requires c.in-Some.is
 
-pub offset-bounds-blocks-i-in-Some : goal.offset-bounds-blocks-i-in-Some
-offset-bounds-blocks-i-in-Some g c = let lt : c.in-Some.i < length c.args.blocks.now = S.i-within c.requires c.in-Some.is in search rules
+pub offset_bounds-blocks-i-in-Some : goal.offset_bounds-blocks-i-in-Some
+offset_bounds-blocks-i-in-Some g c = let lt : c.in-Some.i < length c.args.blocks.now = S.i-within c.requires c.in-Some.is in search rules
 
 pub bounds-blocks-i-in-Some : goal.bounds-blocks-i-in-Some
 bounds-blocks-i-in-Some g c = simp length-set (S.i-within c.requires c.in-Some.is)

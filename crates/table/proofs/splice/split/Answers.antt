@@ -3,8 +3,8 @@ use Rattle.table.proofs.Afters.{within_all}
 use Rattle.table.proofs.Splits as S
 use Rattle.table.proofs.splice.split.Goals as goal
 
-pub offset-bounds-blocks-i : goal.offset-bounds-blocks-i
-offset-bounds-blocks-i g c = let lt : c.args.i < length c.args.blocks.now = S.i-within c.requires in search rules
+pub offset_bounds-blocks-i : goal.offset_bounds-blocks-i
+offset_bounds-blocks-i g c = let lt : c.args.i < length c.args.blocks.now = S.i-within c.requires in search rules
 
 pub bounds-blocks-i : goal.bounds-blocks-i
 bounds-blocks-i g c = S.i-within c.requires
@@ -12,14 +12,14 @@ bounds-blocks-i g c = S.i-within c.requires
 pub cut-fore-requires : goal.cut-fore-requires
 cut-fore-requires g c = record { positive = c.requires.some_left; below = S.below c.requires c.index-blocks-i.is }
 
-pub overflow-add-blocks : goal.overflow-add-blocks
-overflow-add-blocks g c = let lt : c.index-blocks-i.result.id.clock + c.args.k < 2 ^ 32 = S.clocked c.requires c.index-blocks-i.is in search rules
+pub overflow_add-blocks : goal.overflow_add-blocks
+overflow_add-blocks g c = let lt : c.index-blocks-i.result.id.clock + c.args.k < 2 ^ 32 = S.clocked c.requires c.index-blocks-i.is in search rules
 
-pub overflow-add-blocks-2 : goal.overflow-add-blocks-2
-overflow-add-blocks-2 g c = let lt : c.index-blocks-i.result.id.clock + c.args.k < 2 ^ 32 = S.clocked c.requires c.index-blocks-i.is in search rules
+pub overflow_add-blocks-2 : goal.overflow_add-blocks-2
+overflow_add-blocks-2 g c = let lt : c.index-blocks-i.result.id.clock + c.args.k < 2 ^ 32 = S.clocked c.requires c.index-blocks-i.is in search rules
 
-pub offset-bounds-blocks-i-2 : goal.offset-bounds-blocks-i-2
-offset-bounds-blocks-i-2 g c = let lt : c.args.i < length c.args.blocks.now = S.i-within c.requires in search rules
+pub offset_bounds-blocks-i-2 : goal.offset_bounds-blocks-i-2
+offset_bounds-blocks-i-2 g c = let lt : c.args.i < length c.args.blocks.now = S.i-within c.requires in search rules
 
 pub bounds-blocks-i-2 : goal.bounds-blocks-i-2
 bounds-blocks-i-2 g c = simp length-set (S.i-within c.requires)
