@@ -23,4 +23,4 @@ returns-in-Some g c =
     let same : c.index-blocks-i.result.links ≡ at.found.face.links =
     ap (λ (b : Block g.row.C.Denot). b.links)
     (cell-block c.args.blocks.now at.list (front_of c.args.fronts.now at.list) (c.requires.shape.stands at.list) at.found.pre c.in-Some.i at.found.face at.found.post at.found.parts c.index-blocks-i.result c.index-blocks-i.is) in
-    record { place = c.in-Some.i; offset = _; at = at; small = omega (arith, same, c.ones-in.ensures.small); count = c.ones-in.ensures.count ∙ ap ones same }
+    record { place = c.in-Some.i; offset = _; at = at; small = omega (arith, same, c.ones_in.ensures.small); count = c.ones_in.ensures.count ∙ ap ones same }

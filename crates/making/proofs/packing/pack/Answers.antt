@@ -15,7 +15,7 @@ loop-k-preserved c =
     let k = c.loop-k.k in
     let used = c.args.used in
     let lt : used + k < length ws = omega arith in
-    ap₂ (λ zs w. set zs (used + k) w) c.loop-k.invariant c.packed-word.ensures.value
+    ap₂ (λ zs w. set zs (used + k) w) c.loop-k.invariant c.packed_word.ensures.value
     ∙ pack_more ws (λ k. packed_at us (4 * k)) used k lt
 
 pub returns : goal.returns

@@ -9,5 +9,5 @@ returns c =
     let ws = c.args.words.now in
     let more = c.args.more.now in
     let k : used + length more - used ≡ length more = omega arith in
-    ap₂ (λ ys k. put_mid used k ws ys) c.copy-from-slice.ensures.after k
+    ap₂ (λ ys k. put_mid used k ws ys) c.copy_from_slice.ensures.after k
     ∙ ap (λ zs. take used ws ++ (more ++ zs)) (drop-drop (length more) used ws)

@@ -6,8 +6,8 @@ use Rattle.notation.proofs.hex.push_hex.Goals as goal
 
 pub loop-b-preserved : goal.loop-b-preserved
 loop-b-preserved c =
-    hex_more _ _ _ _ c.args.bytes.now c.loop-b.b-index _ _ c.loop-b-test.true c.hex-digit.ensures c.hex-digit-in-loop-b.ensures c.loop-b.invariant
-    c.in-ok-push.ensures.items c.in-ok-push-2.ensures.items
+    hex_more _ _ _ _ c.args.bytes.now c.loop-b.b-index _ _ c.loop-b-test.true c.hex_digit.ensures c.hex_digit-in-loop-b.ensures c.loop-b.invariant
+    c.in_ok-push.ensures.items c.in_ok-push-2.ensures.items
 
 pub returns : goal.returns
 returns c = c.loop-b.invariant ∙ ap (λ q. vec_items c.args.text.now ++ hex_of q) (take_all c.loop-b.b-index c.args.bytes.now c.loop-b-test.false)

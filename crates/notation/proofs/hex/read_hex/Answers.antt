@@ -7,7 +7,7 @@ use Rattle.notation.proofs.hex.read_hex.Goals.{then-loop-n-test+else-word-n-gt1,
 
 pub loop-n-preserved : goal.loop-n-preserved
 loop-n-preserved c = (
-  bytes_more _ _ _ c.args.word.now c.loop-n.n _ (omega arith) (omega (arith, c.nibble-of.ensures.value, c.nibble-of-in-loop-n.ensures.value)) c.loop-n.invariant.0 c.in-ok-push.ensures.items,
+  bytes_more _ _ _ c.args.word.now c.loop-n.n _ (omega arith) (omega (arith, c.nibble_of.ensures.value, c.nibble_of-in-loop-n.ensures.value)) c.loop-n.invariant.0 c.in_ok-push.ensures.items,
   omega arith,
 )
 

@@ -5,11 +5,11 @@ use Rattle.notation.specs.Numerals.{all_digits, value_from}
 use Rattle.notation.proofs.NumeralLaws.{digits_more, digits_step, value_more, value_grows, no_digits, too_large, number_read}
 use Rattle.notation.proofs.numeral.read_number.Goals as goal
 
-pub returns-then-not-is-digit : goal.returns-then-not-is-digit
-returns-then-not-is-digit c =
+pub returns-then-not-is_digit : goal.returns-then-not-is_digit
+returns-then-not-is_digit c =
     let w = c.args.word.now in
     let n = c.loop-n.n in
-    no_digits w (sym c.loop-n.invariant.1 ∙ (digits_more w n c.loop-n-test.true ∙ and_left _ _ (sym c.if-not-is-digit.ensures)))
+    no_digits w (sym c.loop-n.invariant.1 ∙ (digits_more w n c.loop-n-test.true ∙ and_left _ _ (sym c.if-not-is_digit.ensures)))
 
 pub returns-then-next-gt18446744073709551615 : goal.returns-then-next-gt18446744073709551615
 returns-then-next-gt18446744073709551615 c =
@@ -24,7 +24,7 @@ loop-n-preserved c =
     let w = c.args.word.now in
     let n = c.loop-n.n in (
       sym (value_more w n c.loop-n.value c.loop-n-test.true) ∙ c.loop-n.invariant.0,
-      sym (digits_step w n c.loop-n-test.true (sym c.if-not-is-digit.ensures)) ∙ c.loop-n.invariant.1,
+      sym (digits_step w n c.loop-n-test.true (sym c.if-not-is_digit.ensures)) ∙ c.loop-n.invariant.1,
       omega arith,
       omega arith,
     )

@@ -14,7 +14,7 @@ pub loop-number-preserved : goal.loop-number-preserved
 loop-number-preserved c =
     let ns = c.args.numbers.now in
     let i = c.loop-number.number-index in (
-      c.in-ok-push.ensures.items ∙ (ap (λ q. q ++ get_or ns i 0 ∷ []) c.loop-number.invariant.0 ∙ sym (take_more ns i 0 c.loop-number-test.true)),
+      c.in_ok-push.ensures.items ∙ (ap (λ q. q ++ get_or ns i 0 ∷ []) c.loop-number.invariant.0 ∙ sym (take_more ns i 0 c.loop-number-test.true)),
       sym (ap all_short (drop_more ns i 0 c.loop-number-test.true) ∙ ap (λ t. t && all_short (drop (i + 1) ns)) (lt-ltb _ 65536 c.if-number-ge65536.false)) ∙ c.loop-number.invariant.1,
     )
 

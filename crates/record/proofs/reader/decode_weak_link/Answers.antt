@@ -5,9 +5,9 @@ use Rattle.record.proofs.reader.decode_weak_link.Goals as goal
 
 pub returns : goal.returns
 returns c = record {
-  exact = c.read-record.ensures;
-  formed = formed_of c.args.bytes.now c.read-record.result c.read-record.ensures;
-  every = every_of c.args.bytes.now c.read-record.result c.read-record.ensures;
+  exact = c.read_record.ensures;
+  formed = formed_of c.args.bytes.now c.read_record.result c.read_record.ensures;
+  every = every_of c.args.bytes.now c.read_record.result c.read_record.ensures;
   stays = decode-stays c.args.bytes.now;
   first = settled_first c.args.bytes.now;
 }

@@ -4,21 +4,21 @@ use Rattle.std.proofs.lemmas.List.{take_rest}
 use Rattle.leb128.proofs.PartLaws.{put_then}
 use Rattle.record_writer.proofs.writer.put_name.Goals as goal
 
-pub put-number-n-requires : goal.put-number-n-requires
-put-number-n-requires c = omega (arith, length-append (uleb (length c.args.name.now)) c.args.name.now)
+pub put_number-n-requires : goal.put_number-n-requires
+put_number-n-requires c = omega (arith, length-append (uleb (length c.args.name.now)) c.args.name.now)
 
 pub slice_bounds-put_bytes-count : goal.slice_bounds-put_bytes-count
-slice_bounds-put_bytes-count c = omega (arith, c.put-number-n.ensures.count, length-append (uleb (length c.args.name.now)) c.args.name.now)
+slice_bounds-put_bytes-count c = omega (arith, c.put_number-n.ensures.count, length-append (uleb (length c.args.name.now)) c.args.name.now)
 
 pub slice_bounds-put_bytes-start : goal.slice_bounds-put_bytes-start
-slice_bounds-put_bytes-start c = omega (arith, c.put-number-n.ensures.count, length-append (uleb (length c.args.name.now)) c.args.name.now)
+slice_bounds-put_bytes-start c = omega (arith, c.put_number-n.ensures.count, length-append (uleb (length c.args.name.now)) c.args.name.now)
 
-pub put-bytes-requires : goal.put-bytes-requires
-put-bytes-requires c =
-    rw take_rest (omega (arith, length-drop c.put-number-n.result c.put-number-n.new.part, c.put-number-n.ensures.count, length-append (uleb (length c.args.name.now)) c.args.name.now))
+pub put_bytes-requires : goal.put_bytes-requires
+put_bytes-requires c =
+    rw take_rest (omega (arith, length-drop c.put_number-n.result c.put_number-n.new.part, c.put_number-n.ensures.count, length-append (uleb (length c.args.name.now)) c.args.name.now))
 
 pub returns : goal.returns
 returns c = record {
-  count = omega (arith, c.put-number-n.ensures.count, c.put-bytes.ensures.count, length-append (uleb (length c.args.name.now)) c.args.name.now);
-  bytes = put_then c.args.part.now c.put-number-n.new.part c.put-bytes.new.part (uleb (length c.args.name.now)) c.args.name.now c.put-number-n.result c.put-number-n.ensures.count c.put-number-n.ensures.bytes c.put-bytes.ensures.bytes;
+  count = omega (arith, c.put_number-n.ensures.count, c.put_bytes.ensures.count, length-append (uleb (length c.args.name.now)) c.args.name.now);
+  bytes = put_then c.args.part.now c.put_number-n.new.part c.put_bytes.new.part (uleb (length c.args.name.now)) c.args.name.now c.put_number-n.result c.put_number-n.ensures.count c.put_number-n.ensures.bytes c.put_bytes.ensures.bytes;
 }

@@ -3,8 +3,8 @@ use Rattle.std.proofs.lemmas.Result.{err_from_is_err_and}
 use Rattle.rundown.proofs.Inserts.{passes, fails, client_tested}
 use Rattle.rundown.proofs.document.admitted.Goals as goal
 
-pub returns-in-err-admit : goal.returns-in-err-admit
-returns-in-err-admit g c = ?
+pub returns-in_err-admit : goal.returns-in_err-admit
+returns-in_err-admit g c = ?
 
 pub returns-then-size-eq0 : goal.returns-then-size-eq0
 returns-then-size-eq0 g c = ?

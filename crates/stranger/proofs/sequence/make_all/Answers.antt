@@ -12,10 +12,10 @@ loop-i-preserved g c =
     record { sized = g.met.C.Content.sized; steady = g.met.C.Content.steady; halves = g.met.C.Content.halves } in
     let lt : c.loop-i.i < length c.args.recipes.now = omega arith in
     let lt-made : c.loop-i.i < length c.loop-i.made = omega arith in
-    let one = c.make-one-content.ensures in
+    let one = c.make_one-content.ensures in
     one_more g.C.Content g.C.Make.asks c.args.recipes.now c.args.words.now c.args.used c.loop-i.i c.loop-i.n c.loop-i.words c.loop-i.made c.loop-i.invariant laws
     c.index-recipes-i.result c.index-recipes-i.is lt lt-made
-    c.make-one-content.new.words c.make-one-content.result.1 c.make-one-content.result.0
+    c.make_one-content.new.words c.make_one-content.result.1 c.make_one-content.result.0
     one.exact one.chosen one.more one.kept one.made
 
 pub returns : goal.returns

@@ -3,5 +3,5 @@ use Rattle.transcript.proofs.call.read_write.Goals as goal
 
 pub returns : goal.returns
 returns c =
-    write_in_lem c.args.rest.now _ _ _ _ _ _ _ c.next-word.ensures.0 c.next-word.ensures.1 c.next-word-2.ensures.0 c.next-word-2.ensures.1 c.next-word-3.ensures.0
-    c.if-more-gt0.false c.in-ok-read-source.ensures
+    write_in_lem c.args.rest.now _ _ _ _ _ _ _ c.next_word.ensures.0 c.next_word.ensures.1 c.next_word-2.ensures.0 c.next_word-2.ensures.1 c.next_word-3.ensures.0
+    c.if-more-gt0.false c.in_ok-read_source.ensures

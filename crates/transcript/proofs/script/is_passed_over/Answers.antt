@@ -7,4 +7,4 @@ use Rattle.transcript.proofs.script.is_passed_over.Goals as goal
 pub returns-else-line-gt0 : goal.returns-else-line-gt0
 returns-else-line-gt0 c =
     let empty = nil_from_length c.args.line.now (omega arith) in
-    absurd (c.if-word-eq0.false (ap length (c.next-word.ensures.0 ∙ ap first_word empty)))
+    absurd (c.if-word-eq0.false (ap length (c.next_word.ensures.0 ∙ ap first_word empty)))

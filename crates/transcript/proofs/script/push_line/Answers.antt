@@ -10,7 +10,7 @@ pub returns : goal.returns
 returns c =
     let was = vec_items c.args.text.now in
     let line = c.args.line.now in
-    c.in-ok-push.ensures.items
-    ∙ (ap (λ q. q ++ 10 ∷ []) c.in-ok-push-answer.ensures
+    c.in_ok-push.ensures.items
+    ∙ (ap (λ q. q ++ 10 ∷ []) c.in_ok-push_answer.ensures
     ∙ (append_assoc was (answer_to (call_in line)) (10 ∷ [])
-    ∙ ap (λ q. was ++ q) (sym (cond-false (passed_over line) _ _ (sym c.if-is-passed-over.ensures)))))
+    ∙ ap (λ q. was ++ q) (sym (cond-false (passed_over line) _ _ (sym c.if-is_passed_over.ensures)))))

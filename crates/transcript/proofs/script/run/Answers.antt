@@ -5,7 +5,7 @@ use Rattle.transcript.proofs.ScriptLaws.{line_more}
 use Rattle.transcript.proofs.script.run.Goals as goal
 
 pub loop-at-preserved : goal.loop-at-preserved
-loop-at-preserved c = line_more _ _ c.args.script.now c.loop-at.«at» c.find-byte-n.result c.find-byte-n.ensures.value c.loop-at.invariant c.in-ok-push-line.ensures
+loop-at-preserved c = line_more _ _ c.args.script.now c.loop-at.«at» c.find_byte-n.result c.find_byte-n.ensures.value c.loop-at.invariant c.in_ok-push_line.ensures
 
 pub returns : goal.returns
 returns c =

@@ -3,16 +3,16 @@ use Rattle.std.proofs.lemmas.Result.{err_from_is_err_and}
 use Rattle.making.proofs.Appending.{appended-none, verdict_replicate}
 use Rattle.making.proofs.kinds.GapMakeU32.make.Goals as goal
 
-pub returns-in-err-judge : goal.returns-in-err-judge
-returns-in-err-judge c =
-    let p = err_from_is_err_and c.from-residual.result c.from-residual.ensures.1 in
+pub returns-in_err-judge : goal.returns-in_err-judge
+returns-in_err-judge c =
+    let p = err_from_is_err_and c.from_residual.result c.from_residual.ensures.1 in
     rw (p.1, p.2)
-    (record { answer = c.in-err-judge.ensures ∙ verdict_replicate c.args.recipe 0 (length c.args.words.now) c.args.used; kept = refl; leaves = refl })
+    (record { answer = c.in_err-judge.ensures ∙ verdict_replicate c.args.recipe 0 (length c.args.words.now) c.args.used; kept = refl; leaves = refl })
 
 pub returns : goal.returns
 returns c =
     record {
-      answer = c.in-ok-judge.ensures ∙ verdict_replicate c.args.recipe 0 (length c.args.words.now) c.args.used;
+      answer = c.in_ok-judge.ensures ∙ verdict_replicate c.args.recipe 0 (length c.args.words.now) c.args.used;
       kept = refl;
       leaves = record {
         words = appended-none c.args.words.now c.args.used;

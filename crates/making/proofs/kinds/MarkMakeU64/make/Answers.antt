@@ -5,7 +5,7 @@ use Rattle.making.proofs.kinds.MarkMakeU64.make.Goals as goal
 pub returns : goal.returns
 returns c =
     record {
-      answer = c.in-ok-judge.ensures;
+      answer = c.in_ok-judge.ensures;
       kept = refl;
       leaves = record {
         words = appended-none c.args.words.now c.args.used;

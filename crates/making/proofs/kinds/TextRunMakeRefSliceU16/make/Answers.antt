@@ -9,12 +9,12 @@ use Rattle.making.proofs.Appending.{accepted, used_after, length-used-after, app
 use Rattle.making.proofs.Units.{length-packed, text-back}
 use Rattle.making.proofs.kinds.TextRunMakeRefSliceU16.make.Goals as goal
 
-pub returns-in-err-judge : goal.returns-in-err-judge
-returns-in-err-judge c =
+pub returns-in_err-judge : goal.returns-in_err-judge
+returns-in_err-judge c =
     let us = c.args.recipe.now in
-    let p = err_from_is_err_and c.from-residual.result c.from-residual.ensures.1 in
-    let same = ap₂ (λ b m. verdict (length us) b m (length c.args.words.now) c.args.used) c.has-surrogate.ensures (sym (length-packed us)) in
-    rw (p.1, p.2) (record { answer = c.in-err-judge.ensures ∙ same; kept = refl; leaves = refl })
+    let p = err_from_is_err_and c.from_residual.result c.from_residual.ensures.1 in
+    let same = ap₂ (λ b m. verdict (length us) b m (length c.args.words.now) c.args.used) c.has_surrogate.ensures (sym (length-packed us)) in
+    rw (p.1, p.2) (record { answer = c.in_err-judge.ensures ∙ same; kept = refl; leaves = refl })
 
 pub returns : goal.returns
 returns c =
@@ -25,15 +25,15 @@ returns c =
     let n = length us in
     let m = words_of n in
     let more = packed us in
-    let is = c.in-ok-judge.ensures in
-    let room = accepted n c.has-surrogate.result m (length ws) used is in
+    let is = c.in_ok-judge.ensures in
+    let room = accepted n c.has_surrogate.result m (length ws) used is in
     let le : used ≤ length ws = omega arith in
     let size : length more ≡ m = length-packed us in
     let table = c.pack.ensures in
     let front : take (used + m) after ≡ take (used + length more) after = ap (λ k. take (used + k) after) (sym size) in
     let long : length (take (used + m) after) ≡ used + length more = ap length front ∙ ap (λ t. length (take (used + length more) t)) table ∙ length-used-after ws more used le in
     record {
-      answer = is ∙ ap₂ (λ b k. verdict n b k (length ws) used) c.has-surrogate.ensures (sym size);
+      answer = is ∙ ap₂ (λ b k. verdict n b k (length ws) used) c.has_surrogate.ensures (sym size);
       kept = ap (take used) table ∙ appended-keeps ws more used le;
       leaves = record {
         words = table;
@@ -42,6 +42,6 @@ returns c =
         fits = reach_here (4 * used) (4 * used + n) ((4 * used + n - 1) / 4 + 1) (length (take (used + m) after)) (omega arith) (omega arith);
         listing =
             ap (λ t. run (code_unit t) (4 * used) (4 * used + n)) (front ∙ ap (take (used + length more)) table ∙ used_after ws more used le)
-            ∙ text-back us (λ i. let f = c.type-inv.recipe i in omega arith) (take used ws) used (length-take-le used ws le);
+            ∙ text-back us (λ i. let f = c.type_inv.recipe i in omega arith) (take used ws) used (length-take-le used ws le);
       };
     }

@@ -14,13 +14,13 @@ loop-n-preserved c =
     let E : ℕ → Bool = λ m. ends_here (link_in c.args.self.now m) c.args.list (option_map plain_id c.args.right) in
     let n = c.loop-n.n in
     let small : n < 64 = c.loop-n-test.true in (
-      elim c.if-starts-here.branch [
-        | then-starts-here w ↦ subst (λ x. Gathered S c.args.before (n + 1) x) (sym w.s-is) (gather_in S c.args.before n c.loop-n.s small (sym c.starts-here.ensures ∙ w.if-starts-here.true) c.loop-n.invariant.0)
-        | else-starts-here w ↦ subst (λ x. Gathered S c.args.before (n + 1) x) (sym w.s-is) (gather_out S c.args.before n c.loop-n.s (sym c.starts-here.ensures ∙ w.if-starts-here.false) c.loop-n.invariant.0)
+      elim c.if-starts_here.branch [
+        | then-starts-here w ↦ subst (λ x. Gathered S c.args.before (n + 1) x) (sym w.s-is) (gather_in S c.args.before n c.loop-n.s small (sym c.starts_here.ensures ∙ w.if-starts-here.true) c.loop-n.invariant.0)
+        | else-starts-here w ↦ subst (λ x. Gathered S c.args.before (n + 1) x) (sym w.s-is) (gather_out S c.args.before n c.loop-n.s (sym c.starts_here.ensures ∙ w.if-starts-here.false) c.loop-n.invariant.0)
       ],
-      elim c.if-ends-here.branch [
-        | then-ends-here w ↦ subst (λ x. Gathered E c.args.after (n + 1) x) (sym w.e-is) (gather_in E c.args.after n c.loop-n.e small (sym c.ends-here.ensures ∙ w.if-ends-here.true) c.loop-n.invariant.1)
-        | else-ends-here w ↦ subst (λ x. Gathered E c.args.after (n + 1) x) (sym w.e-is) (gather_out E c.args.after n c.loop-n.e (sym c.ends-here.ensures ∙ w.if-ends-here.false) c.loop-n.invariant.1)
+      elim c.if-ends_here.branch [
+        | then-ends-here w ↦ subst (λ x. Gathered E c.args.after (n + 1) x) (sym w.e-is) (gather_in E c.args.after n c.loop-n.e small (sym c.ends_here.ensures ∙ w.if-ends-here.true) c.loop-n.invariant.1)
+        | else-ends-here w ↦ subst (λ x. Gathered E c.args.after (n + 1) x) (sym w.e-is) (gather_out E c.args.after n c.loop-n.e (sym c.ends_here.ensures ∙ w.if-ends-here.false) c.loop-n.invariant.1)
       ],
     )
 

@@ -15,4 +15,4 @@ returns c =
       | then-bytes-lt32 w ↦ take_all n bytes (omega (arith, w.n-is)) ∙ sym (take_all 32 bytes (omega (arith, w.if-bytes-lt32.true)))
       | else-bytes-lt32 w ↦ ap (λ k. take k bytes) w.n-is
     ] in
-    name_made bytes c.copy-from-slice.new.self _ n h c.copy-from-slice.ensures.after s
+    name_made bytes c.copy_from_slice.new.self _ n h c.copy_from_slice.ensures.after s

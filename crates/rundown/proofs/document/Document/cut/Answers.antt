@@ -9,15 +9,15 @@ use Rattle.rundown.proofs.document.Document.cut.Goals as goal
 laws : (g : given.Over) → Lawful g.C.Content
 laws g = record { sized = g.met.C.Content.sized; steady = g.met.C.Content.steady; halves = g.met.C.Content.halves }
 
-pub returns-in-err-self : goal.returns-in-err-self
-returns-in-err-self g c =
+pub returns-in_err-self : goal.returns-in_err-self
+returns-in_err-self g c =
     let d = doc c.args.self.now.blocks.now c.args.self.now.words.now c.args.self.now.state in
-    let told = c.in-err-self.ensures in
-    let p = err_from_is_err_and c.from-residual.result c.from-residual.ensures.1 in
-    rw (p.1, p.2) (cut-called g.C.Content (laws g) c.args.id d c.requires c.cut-at.new.blocks (omega arith) (Err _) told.tables told.shape)
+    let told = c.in_err-self.ensures in
+    let p = err_from_is_err_and c.from_residual.result c.from_residual.ensures.1 in
+    rw (p.1, p.2) (cut-called g.C.Content (laws g) c.args.id d c.requires c.cut_at.new.blocks (omega arith) (Err _) told.tables told.shape)
 
 pub returns : goal.returns
 returns g c =
     let d = doc c.args.self.now.blocks.now c.args.self.now.words.now c.args.self.now.state in
-    let told = c.in-ok-self.ensures in
-    cut-called g.C.Content (laws g) c.args.id d c.requires c.cut-at.new.blocks (omega arith) (Ok _) told.tables told.shape
+    let told = c.in_ok-self.ensures in
+    cut-called g.C.Content (laws g) c.args.id d c.requires c.cut_at.new.blocks (omega arith) (Ok _) told.tables told.shape
