@@ -40,4 +40,4 @@ returns-else-o-len g c =
     G.gap_after g.C.Content c.args.index _ _ c.in-After.i c.in-After.o refl q (grind (arith, nat_tests))
 
 pub returns-in-default : goal.returns-in-default
-returns-in-default g c = G.gap-rest g.C.Content c.args.index _ _ c.in-default.not-After refl c.seek-place.ensures
+returns-in-default g c = G.gap-rest g.C.Content c.args.index _ _ c.in_default.not-After refl c.seek-place.ensures

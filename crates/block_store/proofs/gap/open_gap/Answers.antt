@@ -22,4 +22,4 @@ returns-else-gap-eq0 g c =
     }
 
 pub returns-in-default : goal.returns-in-default
-returns-in-default g c = record { tables = G.opened-rest c.requires c.in-default.not-After; shape = λ n s. s }
+returns-in-default g c = record { tables = G.opened-rest c.requires c.in_default.not-After; shape = λ n s. s }

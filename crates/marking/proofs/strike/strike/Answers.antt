@@ -53,4 +53,4 @@ pub loop-cur-preserved : goal.loop-cur-preserved
 loop-cur-preserved g c = λ w. S.strike-pass w (c.loop-cur.invariant w) c.in-Some.is (omega arith) c.index-blocks-i.is (unseen g c)
 
 pub returns : goal.returns
-returns g c = λ w. S.strike-end w (c.loop-cur.invariant w) c.in-default.is
+returns g c = λ w. S.strike-end w (c.loop-cur.invariant w) c.in_default.is

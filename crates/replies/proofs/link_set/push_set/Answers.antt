@@ -16,7 +16,7 @@ loop-n-preserved c =
     let was = vec_items c.push.new.self in
     elim c.if-links-n-eq1.branch [
       | then-links-n-eq1+in-ok-push-member w ↦
-          let more = set_more was (vec_items c.loop-n.text) _ n links c.loop-n.first w.if-links-n-eq1.true c.loop-n.invariant.1 c.loop-n.invariant.0 w.in-ok-push-member.ensures in
+          let more = set_more was (vec_items c.loop-n.text) _ n links c.loop-n.first w.if-links-n-eq1.true c.loop-n.invariant.1 c.loop-n.invariant.0 w.in_ok-push_member.ensures in
           (ap vec_items w.text-is ∙ more.0, w.first-is ∙ more.1)
       | else-links-n-eq1 w ↦
           let same = sym (set_same n links w.if-links-n-eq1.false) in

@@ -6,7 +6,7 @@ use Rattle.law.proofs.Bits.{bit-and}
 use Rattle.registry.specs.Links.{plain_id, source_of, link_in}
 use Rattle.registry.proofs.Gathering.{Gathered, gather_in, gather_out, gather_all}
 use Rattle.registry.proofs.links.Links.join.Goals as goal
-use Rattle.registry.proofs.links.Links.join.Goals.{then-starts-here, else-starts-here, then-ends-here, else-ends-here}
+use Rattle.registry.proofs.links.Links.join.Goals.{then-starts_here, else-starts_here, then-ends_here, else-ends_here}
 
 pub loop-n-preserved : goal.loop-n-preserved
 loop-n-preserved c =
@@ -15,12 +15,12 @@ loop-n-preserved c =
     let n = c.loop-n.n in
     let small : n < 64 = c.loop-n-test.true in (
       elim c.if-starts_here.branch [
-        | then-starts-here w ↦ subst (λ x. Gathered S c.args.before (n + 1) x) (sym w.s-is) (gather_in S c.args.before n c.loop-n.s small (sym c.starts_here.ensures ∙ w.if-starts-here.true) c.loop-n.invariant.0)
-        | else-starts-here w ↦ subst (λ x. Gathered S c.args.before (n + 1) x) (sym w.s-is) (gather_out S c.args.before n c.loop-n.s (sym c.starts_here.ensures ∙ w.if-starts-here.false) c.loop-n.invariant.0)
+        | then-starts_here w ↦ subst (λ x. Gathered S c.args.before (n + 1) x) (sym w.s-is) (gather_in S c.args.before n c.loop-n.s small (sym c.starts_here.ensures ∙ w.if-starts_here.true) c.loop-n.invariant.0)
+        | else-starts_here w ↦ subst (λ x. Gathered S c.args.before (n + 1) x) (sym w.s-is) (gather_out S c.args.before n c.loop-n.s (sym c.starts_here.ensures ∙ w.if-starts_here.false) c.loop-n.invariant.0)
       ],
       elim c.if-ends_here.branch [
-        | then-ends-here w ↦ subst (λ x. Gathered E c.args.after (n + 1) x) (sym w.e-is) (gather_in E c.args.after n c.loop-n.e small (sym c.ends_here.ensures ∙ w.if-ends-here.true) c.loop-n.invariant.1)
-        | else-ends-here w ↦ subst (λ x. Gathered E c.args.after (n + 1) x) (sym w.e-is) (gather_out E c.args.after n c.loop-n.e (sym c.ends_here.ensures ∙ w.if-ends-here.false) c.loop-n.invariant.1)
+        | then-ends_here w ↦ subst (λ x. Gathered E c.args.after (n + 1) x) (sym w.e-is) (gather_in E c.args.after n c.loop-n.e small (sym c.ends_here.ensures ∙ w.if-ends_here.true) c.loop-n.invariant.1)
+        | else-ends_here w ↦ subst (λ x. Gathered E c.args.after (n + 1) x) (sym w.e-is) (gather_out E c.args.after n c.loop-n.e (sym c.ends_here.ensures ∙ w.if-ends_here.false) c.loop-n.invariant.1)
       ],
     )
 
