@@ -39,5 +39,5 @@ returns-else-o-len g c =
     let way = c.if-o-len.false in
     G.gap_after g.C.Content c.args.index _ _ c.in-After.i c.in-After.o refl q (grind (arith, nat_tests))
 
-pub returns-in-default : goal.returns-in-default
-returns-in-default g c = G.gap-rest g.C.Content c.args.index _ _ c.in_default.not-After refl c.seek-place.ensures
+pub returns-in_default : goal.returns-in_default
+returns-in_default g c = G.gap-rest g.C.Content c.args.index _ _ c.in_default.not-After refl c.seek-place.ensures

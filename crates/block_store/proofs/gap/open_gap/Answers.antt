@@ -21,5 +21,5 @@ returns-else-gap-eq0 g c =
       shape = G.opened-shape c.requires c.in-After.i c.in-After.o c.in-After.is c.if-gap-eq0.false (laws g) c.split.new.blocks cut (omega arith);
     }
 
-pub returns-in-default : goal.returns-in-default
-returns-in-default g c = record { tables = G.opened-rest c.requires c.in_default.not-After; shape = λ n s. s }
+pub returns-in_default : goal.returns-in_default
+returns-in_default g c = record { tables = G.opened-rest c.requires c.in_default.not-After; shape = λ n s. s }

@@ -1,4 +1,4 @@
-use Rattle.std.proofs.Common.{◌≡◌, ◌+◌, ◌-◌, length}
+use Rattle.std.proofs.Common.{◌≡◌, ◌+◌, length}
 use Rattle.leb128.specs.Leb128.{uleb}
 use Rattle.leb128.proofs.writer.number_len.Given as goal
 

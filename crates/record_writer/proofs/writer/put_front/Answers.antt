@@ -1,4 +1,4 @@
-use Rattle.std.proofs.Common.{◌-◌, [], ◌∷◌, arith, length-drop}
+use Rattle.std.proofs.Common.{[], ◌∷◌, arith, length-drop}
 use Rattle.std.proofs.lemmas.List.{take_rest}
 use Rattle.source.specs.Meaning.{scope_of}
 use Rattle.record.specs.Format.{scope_bytes}

@@ -1,4 +1,4 @@
-use Rattle.std.proofs.Common.{◌-◌, length, arith, length-append, length-drop}
+use Rattle.std.proofs.Common.{length, arith, length-append, length-drop}
 use Rattle.leb128.specs.Leb128.{uleb}
 use Rattle.std.proofs.lemmas.List.{take_rest}
 use Rattle.leb128.proofs.PartLaws.{put_then}

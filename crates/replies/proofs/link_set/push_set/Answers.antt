@@ -3,7 +3,7 @@ use Rattle.std.proofs.lemmas.List.{append-nil, append_assoc}
 use Rattle.replies.specs.Sets.{links_below, listed}
 use Rattle.replies.proofs.SetLaws.{none, set_more, set_same}
 use Rattle.replies.proofs.link_set.push_set.Goals as goal
-use Rattle.replies.proofs.link_set.push_set.Goals.{then-links-n-eq1+in-ok-push-member, else-links-n-eq1}
+use Rattle.replies.proofs.link_set.push_set.Goals.{then-links-n-eq1+in_ok-push_member, else-links-n-eq1}
 
 pub loop-n-init : goal.loop-n-init
 unfolding links_below
@@ -15,7 +15,7 @@ loop-n-preserved c =
     let links = c.args.links in
     let was = vec_items c.push.new.self in
     elim c.if-links-n-eq1.branch [
-      | then-links-n-eq1+in-ok-push-member w ↦
+      | then-links-n-eq1+in_ok-push_member w ↦
           let more = set_more was (vec_items c.loop-n.text) _ n links c.loop-n.first w.if-links-n-eq1.true c.loop-n.invariant.1 c.loop-n.invariant.0 w.in_ok-push_member.ensures in
           (ap vec_items w.text-is ∙ more.0, w.first-is ∙ more.1)
       | else-links-n-eq1 w ↦

@@ -1,4 +1,4 @@
-use Rattle.std.proofs.Common.{◌≡◌, ◌-◌, length, take, ap, ◌∙◌, arith}
+use Rattle.std.proofs.Common.{◌≡◌, length, take, ap, ◌∙◌, arith}
 use Rattle.registry.proofs.NameLaws.{part_whole, part_full}
 use Rattle.registry.proofs.name.Name.as_bytes.Goals as goal
 use Rattle.registry.proofs.name.Name.as_bytes.Goals.{then-self-lt32, else-self-lt32}
