@@ -2,7 +2,7 @@
 use Rattle.std.proofs.Common.{◌≡◌, ℕ, ◌+◌, ◌-◌, ◌<◌, ◌≤◌, Bool, true, false, cond, ltb, ◌≢◌, ◌⊎◌, List, [], ◌∷◌, ◌++◌, length, get_or, Some, None, Option, sym, refl, ap, ◌∙◌, subst, inl, inr, append_assoc, arith}
 use Rattle.std.proofs.lemmas.Bool.{cases_Bool}
 use Rattle.std.proofs.lemmas.Bool.Decides.{nat_tests}
-use Rattle.std.specs.List.{AllByRecursion as All}
+use Rattle.std.specs.List.{AllByRecursion}
 use Rattle.content.specs.declared.content.Content.{Ghosts}
 use Rattle.content.specs.Lawful.{Lawful}
 use Rattle.table.specs.declared.block.Block.{Block}
@@ -77,10 +77,10 @@ module _ {C : Type 0} where
     }
 
   -- The blocks on both sides of an open gap are good.
-  pub gapped-good : {K : Ghosts C} {i j : ℕ} {cs pre post : List (Cell C)} (n : ℕ) → Lawful K → Gapped K i j cs pre post → All (Good K n) cs → All (Good K n) (pre ++ post)
+  pub gapped-good : {K : Ghosts C} {i j : ℕ} {cs pre post : List (Cell C)} (n : ℕ) → Lawful K → Gapped K i j cs pre post → AllByRecursion (Good K n) cs → AllByRecursion (Good K n) (pre ++ post)
   gapped-good {K} {i} {j} {cs} n laws g good = elim (cases_Bool (inside K i cs)) [
-    | inl in-it ↦ subst (λ (xs : List (Cell C)). All (Good K n) xs) (g.cut in-it).1 (S.pieces-good n j laws (g.cut in-it).0 good)
-    | inr out ↦ subst (λ (xs : List (Cell C)). All (Good K n) xs) (g.whole out) good
+    | inl in-it ↦ subst (λ (xs : List (Cell C)). AllByRecursion (Good K n) xs) (g.cut in-it).1 (S.pieces-good n j laws (g.cut in-it).0 good)
+    | inr out ↦ subst (λ (xs : List (Cell C)). AllByRecursion (Good K n) xs) (g.whole out) good
   ]
 
   module _ {K : Ghosts C} {t : List (Block C)} {fronts : List (Option ℕ)} {used l i : ℕ} {g : Gap} (w : Openable K t fronts used l i g) where

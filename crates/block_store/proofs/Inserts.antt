@@ -2,7 +2,7 @@
 use Rattle.std.proofs.Common.{◌≡◌, ℕ, ◌+◌, ◌^◌, ◌<◌, ◌≤◌, false, ◌&&◌, ◌||◌, ◌≢◌, List, [], ◌∷◌, ◌++◌, length, get_or, set, Some, None, Option, sym, refl, ap, ◌∙◌, subst, ap₂, arith, length-append, length-set}
 use Rattle.std.proofs.lemmas.List.{get_or-set_same, get_or-set_other}
 use Rattle.std.specs.Option.{option_map}
-use Rattle.std.specs.List.{AllByRecursion as All}
+use Rattle.std.specs.List.{AllByRecursion}
 use Rattle.content.specs.declared.content.Content.{Ghosts}
 use Rattle.content.specs.Lawful.{Lawful}
 use Rattle.source.specs.declared.id.Id.{Id}
@@ -98,8 +98,8 @@ module _ {C : Type 0} where
 
       pub inserted-shape : (n : ℕ) → Shape K n mid j fronts → K.reach x ≤ n → length u ≡ length t → Shape K n u (j + 1) (set fronts l begin)
       inserted-shape n s fits same =
-          let low : All (λ c. c.at < j) (o.pre ++ o.post) = subst (λ (cs : List (Cell C)). All (λ c. c.at < j) cs) o.changed.is (s.low l) in
-          let good : All (Good K n) (o.pre ++ o.post) = subst (λ (cs : List (Cell C)). All (Good K n) cs) o.changed.is (s.good l) in
+          let low : AllByRecursion (λ c. c.at < j) (o.pre ++ o.post) = subst (λ (cs : List (Cell C)). AllByRecursion (λ c. c.at < j) cs) o.changed.is (s.low l) in
+          let good : AllByRecursion (Good K n) (o.pre ++ o.post) = subst (λ (cs : List (Cell C)). AllByRecursion (Good K n) cs) o.changed.is (s.good l) in
           S.shape-changed put-changed K n j (j + 1) s w.known (omega arith) (let f = w.fits in omega arith)
           (S.all_put (λ c. c.at < j + 1) o.pre _ o.post (S.lower j (j + 1) _ (omega arith) low) (omega arith))
           (S.all_put (Good K n) o.pre _ o.post good (record { numbered = record { some = w.some; ids = w.ids }; fits = fits }))

@@ -2,7 +2,7 @@
 use Rattle.std.proofs.Common.{◌≡◌, ℕ, ◌+◌, ◌<◌, ◌≤◌, Bool, true, false, cond, ◌≢◌, List, [], ◌∷◌, ◌++◌, map, length, Option, sym, refl, ap, ◌∙◌, subst, ap₂, inl, inr, arith, length-append}
 use lib.ListN.{length-map}
 use Rattle.std.proofs.lemmas.Bool.{cases_Bool}
-use Rattle.std.specs.List.{AllByRecursion as All}
+use Rattle.std.specs.List.{AllByRecursion}
 use Rattle.content.specs.declared.content.Content.{Ghosts}
 use Rattle.content.specs.Lawful.{Lawful}
 use Rattle.marking.specs.Strikes.{struck_cell, union, Strikable, Struck}
@@ -139,7 +139,7 @@ module _ {C : Type 0} (K : Ghosts C) where
       pub hand : {e : LeftEdge} → table.LeftIs K b.pre b.post e → front (ms ++ ys) ≡ e.right
       hand le = ap front (sym post_is) ∙ sym le.right
 
-      pub all-filled : All (λ c. 0 < K.size c.face.content) (blocks_of both fronts l)
+      pub all-filled : AllByRecursion (λ c. 0 < K.size c.face.content) (blocks_of both fronts l)
       all-filled = S.all_map (Good K w.words) (λ c. 0 < K.size c.face.content) _ (λ c good. good.numbered.some) (shape.good l)
 
       abbrev pub strikable : (e : LeftEdge) → table.LeftIs K b.pre b.post e → Strikable K both e.right n
@@ -187,8 +187,8 @@ module _ {C : Type 0} (K : Ghosts C) where
 
         pub removed-shape : (m : ℕ) → Shape K m both k fronts → length u ≡ length both → Shape K m u k fronts
         removed-shape m sh long =
-            let low : All (λ c. c.at < k) (b.pre ++ (ms ++ ys)) = subst (λ (cs : List (Cell C)). All (λ c. c.at < k) cs) now-parts (sh.low l) in
-            let good : All (Good K m) (b.pre ++ (ms ++ ys)) = subst (λ (cs : List (Cell C)). All (Good K m) cs) now-parts (sh.good l) in
+            let low : AllByRecursion (λ c. c.at < k) (b.pre ++ (ms ++ ys)) = subst (λ (cs : List (Cell C)). AllByRecursion (λ c. c.at < k) cs) now-parts (sh.low l) in
+            let good : AllByRecursion (Good K m) (b.pre ++ (ms ++ ys)) = subst (λ (cs : List (Cell C)). AllByRecursion (Good K m) cs) now-parts (sh.good l) in
             let room = sh.room in
             S.shape-changed struck-changed K m k k sh w.known (omega arith) (omega arith)
             (among (λ c. c.at < k) low (λ c lt. lt))
@@ -196,11 +196,11 @@ module _ {C : Type 0} (K : Ghosts C) where
             (ap (λ z. z + k) (length-append b.pre (map (struck_cell K) ms ++ ys) ∙ ap (λ z. length b.pre + z) (length-append (map (struck_cell K) ms) ys ∙ ap (λ z. z + length ys) (length-map ms (struck_cell K)) ∙ sym (length-append ms ys))
             ∙ sym (length-append b.pre (ms ++ ys)) ∙ ap length (sym now-parts)))
           where
-            each : (P : Cell C → Type 0) (xs : List (Cell C)) → All P xs → ((c : Cell C) → P c → P (struck_cell K c)) → All P (map (struck_cell K) xs)
+            each : (P : Cell C → Type 0) (xs : List (Cell C)) → AllByRecursion P xs → ((c : Cell C) → P c → P (struck_cell K c)) → AllByRecursion P (map (struck_cell K) xs)
             each P [] h f = tt
             each P (x ∷ xs) h f = (f x h.0, each P xs h.1 f)
 
-            among : (P : Cell C → Type 0) → All P (b.pre ++ (ms ++ ys)) → ((c : Cell C) → P c → P (struck_cell K c)) → All P (b.pre ++ (map (struck_cell K) ms ++ ys))
+            among : (P : Cell C → Type 0) → AllByRecursion P (b.pre ++ (ms ++ ys)) → ((c : Cell C) → P c → P (struck_cell K c)) → AllByRecursion P (b.pre ++ (map (struck_cell K) ms ++ ys))
             among P h f =
                 S.all_join P b.pre _ (all_front P b.pre (ms ++ ys) h)
                 (S.all_join P (map (struck_cell K) ms) ys (each P ms (all_front P ms ys (all_back P b.pre (ms ++ ys) h)) f) (all_back P ms ys (all_back P b.pre (ms ++ ys) h)))

@@ -2,7 +2,7 @@
 use Rattle.std.proofs.Common.{◌≡◌, ℕ, zero, suc, ◌+◌, ◌<◌, ◌≤◌, ◌≢◌, ◌⊎◌, List, [], ◌∷◌, ◌++◌, length, None, Option, sym, refl, ap, ◌∙◌, subst, inl, inr, arith, length-append}
 use Rattle.std.proofs.lemmas.List.{get_or_past}
 use Rattle.std.proofs.lemmas.Bool.{cases_eq, cases_lt}
-use Rattle.std.specs.List.{AllByRecursion as All}
+use Rattle.std.specs.List.{AllByRecursion}
 use Rattle.content.specs.declared.content.Content.{Ghosts}
 use Rattle.content.specs.Lawful.{Lawful}
 use Rattle.table.specs.declared.block.Block.{Block}
@@ -38,18 +38,18 @@ total_changed f g (suc n) l x y lt e o = step (λ lt'. total_changed f g n l x y
         let a : g n ≡ f n = o n ne in
         omega arith
 
-pub all_join : {X : Type 0} (P : X → Type 0) (xs ys : List X) → All P xs → All P ys → All P (xs ++ ys)
+pub all_join : {X : Type 0} (P : X → Type 0) (xs ys : List X) → AllByRecursion P xs → AllByRecursion P ys → AllByRecursion P (xs ++ ys)
 all_join P [] ys a b = b
 all_join P (x ∷ xs) ys a b = (a.0, all_join P xs ys a.1 b)
 
-pub all_at : {X : Type 0} (P : X → Type 0) (xs : List X) (x : X) (ys : List X) → All P (xs ++ x ∷ ys) → P x
+pub all_at : {X : Type 0} (P : X → Type 0) (xs : List X) (x : X) (ys : List X) → AllByRecursion P (xs ++ x ∷ ys) → P x
 all_at P xs x ys a = (all_back P xs (x ∷ ys) a).0
 
 -- What holds of each, where one more stands among them.
-pub all_put : {X : Type 0} (P : X → Type 0) (xs : List X) (x : X) (ys : List X) → All P (xs ++ ys) → P x → All P (xs ++ x ∷ ys)
+pub all_put : {X : Type 0} (P : X → Type 0) (xs : List X) (x : X) (ys : List X) → AllByRecursion P (xs ++ ys) → P x → AllByRecursion P (xs ++ x ∷ ys)
 all_put P xs x ys a px = all_join P xs (x ∷ ys) (all_front P xs ys a) (px, all_back P xs ys a)
 
-pub all_map : {X : Type 0} (P Q : X → Type 0) (xs : List X) → ((x : X) → P x → Q x) → All P xs → All Q xs
+pub all_map : {X : Type 0} (P Q : X → Type 0) (xs : List X) → ((x : X) → P x → Q x) → AllByRecursion P xs → AllByRecursion Q xs
 all_map P Q [] f a = tt
 all_map P Q (x ∷ xs) f a = (f x a.0, all_map P Q xs f a.1)
 
@@ -58,11 +58,11 @@ module _ {C : Type 0} where
   no_cells t = cells_of t 0 None None [] tt refl
 
   -- A list whose blocks lie below a record does not have that record.
-  pub low-apart : (n : ℕ) (cs : List (Cell C)) → All (λ c. c.at < n) cs → Apart n cs
+  pub low-apart : (n : ℕ) (cs : List (Cell C)) → AllByRecursion (λ c. c.at < n) cs → Apart n cs
   low-apart n [] a = tt
   low-apart n (c ∷ cs) a = ((λ e. let lt : c.at < n = a.0 in omega arith), low-apart n cs a.1)
 
-  pub lower : (m n : ℕ) (cs : List (Cell C)) → m ≤ n → All (λ c. c.at < m) cs → All (λ c. c.at < n) cs
+  pub lower : (m n : ℕ) (cs : List (Cell C)) → m ≤ n → AllByRecursion (λ c. c.at < m) cs → AllByRecursion (λ c. c.at < n) cs
   lower m n cs le a = all_map (λ c. c.at < m) (λ c. c.at < n) cs (λ c lt. omega arith) a
 
   -- Nothing has changed.
@@ -89,11 +89,11 @@ module _ {C : Type 0} where
         step (inr ne) = subst (λ o. Stands u m o) (sym (w.fronts_same m ne)) (w.others m ne).stands
 
     pub shape-changed : (K : Ghosts C) (n used now-used : ℕ) → Shape K n t used fronts → l < length fronts → used ≤ now-used → now-used ≤ length u
-        → All (λ c. c.at < now-used) cs → All (Good K n) cs → length cs + used ≡ length (blocks_of t fronts l) + now-used → Shape K n u now-used now-fronts
+        → AllByRecursion (λ c. c.at < now-used) cs → AllByRecursion (Good K n) cs → length cs + used ≡ length (blocks_of t fronts l) + now-used → Shape K n u now-used now-fronts
     shape-changed K n used now-used s known more room low good long = record {
       stands = each_stands;
-      low = each (λ m ds. All (λ c. c.at < now-used) ds) low (λ m. lower used now-used (blocks_of t fronts m) more (s.low m));
-      good = each (λ m ds. All (Good K n) ds) good s.good;
+      low = each (λ m ds. AllByRecursion (λ c. c.at < now-used) ds) low (λ m. lower used now-used (blocks_of t fronts m) more (s.low m));
+      good = each (λ m ds. AllByRecursion (Good K n) ds) good s.good;
       room = room;
       count =
           (let e : total (λ m. length (blocks_of u now-fronts m)) (length fronts) + used ≡ total (λ m. length (blocks_of t fronts m)) (length fronts) + now-used =
@@ -117,9 +117,9 @@ module _ {C : Type 0} where
     }
 
   -- Both pieces of a good block are good.
-  pub pieces-good : {K : Ghosts C} {cs : List (Cell C)} (n j : ℕ) → Lawful K → (c : CutBlock K cs) → All (Good K n) cs → All (Good K n) (pieces j c)
+  pub pieces-good : {K : Ghosts C} {cs : List (Cell C)} (n j : ℕ) → Lawful K → (c : CutBlock K cs) → AllByRecursion (Good K n) cs → AllByRecursion (Good K n) (pieces j c)
   pieces-good {K} {cs} n j laws c good =
-      let was : All (Good K n) (c.pre ++ cell c.place c.face ∷ c.post) = subst (λ (ds : List (Cell C)). All (Good K n) ds) c.parts good in
+      let was : AllByRecursion (Good K n) (c.pre ++ cell c.place c.face ∷ c.post) = subst (λ (ds : List (Cell C)). AllByRecursion (Good K n) ds) c.parts good in
       let g : Good K n (cell c.place c.face) = all_at (Good K n) c.pre (cell c.place c.face) c.post was in
       let h = laws.halves c.offset c.face.content c.low c.high in
       let ids = g.numbered.ids in
@@ -141,7 +141,7 @@ module _ {C : Type 0} where
 
     module _ (l : ℕ) (c : CutBlock K (blocks_of t fronts l)) where
       pub cut-good : Good K n (cell c.place c.face)
-      cut-good = all_at (Good K n) c.pre (cell c.place c.face) c.post (subst (λ (cs : List (Cell C)). All (Good K n) cs) c.parts (s.good l))
+      cut-good = all_at (Good K n) c.pre (cell c.place c.face) c.post (subst (λ (cs : List (Cell C)). AllByRecursion (Good K n) cs) c.parts (s.good l))
 
       abbrev pub cuttable : used < length t → Cuttable K t c.place c.offset used
       cuttable room = record {
@@ -170,7 +170,7 @@ module _ {C : Type 0} where
 
       pub cut-shape : Lawful K → l < length fronts → used < length t → {u : List (Block C)} → length u ≡ length t → Changed t u fronts fronts l (pieces used c) → Shape K n u (used + 1) fronts
       cut-shape laws known room long w =
-          let was-low : All (λ d. d.at < used) (c.pre ++ cell c.place c.face ∷ c.post) = subst (λ (cs : List (Cell C)). All (λ d. d.at < used) cs) c.parts (s.low l) in
+          let was-low : AllByRecursion (λ d. d.at < used) (c.pre ++ cell c.place c.face ∷ c.post) = subst (λ (cs : List (Cell C)). AllByRecursion (λ d. d.at < used) cs) c.parts (s.low l) in
           shape-changed w K n used (used + 1) s known (omega arith) (omega arith)
           (all_join (λ d. d.at < used + 1) c.pre _ (lower used (used + 1) c.pre (omega arith) (all_front (λ d. d.at < used) c.pre _ was-low)) (
             let lt : c.place < used = all_at (λ d. d.at < used) c.pre (cell c.place c.face) c.post was-low in omega arith,

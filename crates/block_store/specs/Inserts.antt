@@ -1,7 +1,7 @@
 -- A new block in a list.
 use Rattle.std.specs.Prelude.{◌≡◌, ℕ, ◌+◌, ◌^◌, ◌<◌, ◌≤◌, false, ◌&&◌, ◌||◌, List, ◌∷◌, ◌++◌, length, Some, None, Option, ◌≢◌}
 use Rattle.std.specs.Option.{option_map}
-use Rattle.std.specs.List.{AllByRecursion as All}
+use Rattle.std.specs.List.{AllByRecursion}
 use Rattle.content.specs.declared.content.Content.{Ghosts}
 use Rattle.source.specs.declared.id.Id.{Id}
 use Rattle.law.specs.Faces.{bit}
@@ -35,7 +35,7 @@ pub record Puttable {C : Type 0} (K : Ghosts C) (t : List (Block C)) (l : ℕ) (
   pub stands : Stands t l start
   pub parts : cells t start ≡ pre ++ post
   pub ends : last None pre ≡ left
-  pub numbered : All (λ c. Numbered K c.face) (cells t start)
+  pub numbered : AllByRecursion (λ c. Numbered K c.face) (cells t start)
   pub room : j < length t
   pub free : Apart j (cells t start)
 

@@ -1,6 +1,6 @@
 -- Several lists in one table, each by its front.
 use Rattle.std.specs.Prelude.{◌≡◌, ℕ, zero, suc, ◌+◌, ◌<◌, ◌≤◌, ◌≢◌, List, length, None, Option, slice_index_or}
-use Rattle.std.specs.List.{AllByRecursion as All}
+use Rattle.std.specs.List.{AllByRecursion}
 use Rattle.content.specs.declared.content.Content.{Ghosts}
 use Rattle.table.specs.declared.block.Block.{Block}
 use Rattle.table.specs.Cells.{Cell, cells, Stands, Kept}
@@ -27,8 +27,8 @@ total f (suc k) = f k + total f k
 -- there are blocks in all; so a record from `used` on is free. No block is empty, and contents fit n words.
 pub record Shape {C : Type 0} (K : Ghosts C) (n : ℕ) (t : List (Block C)) (used : ℕ) (fronts : List (Option ℕ)) : Type 0 where
   pub stands : (l : ℕ) → Stands t l (front_of fronts l)
-  pub low : (l : ℕ) → All (λ c. c.at < used) (blocks_of t fronts l)
-  pub good : (l : ℕ) → All (Good K n) (blocks_of t fronts l)
+  pub low : (l : ℕ) → AllByRecursion (λ c. c.at < used) (blocks_of t fronts l)
+  pub good : (l : ℕ) → AllByRecursion (Good K n) (blocks_of t fronts l)
   pub room : used ≤ length t
   pub count : total (λ l. length (blocks_of t fronts l)) (length fronts) ≡ used
 

@@ -1,5 +1,5 @@
 // A mark is one unit that is not countable, and holds no word.
-ghost use Rattle.std.specs.Prelude.{false, [], ◌∷◌};
+ghost use Rattle.std.specs.Prelude.{◌≡◌, false, [], ◌∷◌};
 ghost use Rattle.std.proofs.Common.{rules};
 
 use crate::content::Content;
@@ -45,8 +45,11 @@ impl Content for Mark {
         if offset == 0 { Some(self.unit) } else { None }
     }
 
-    // No k lies between 0 and the length 1.
-    fn cut(&self, _k: u32) -> (Mark, Mark) {
-        unreachable()
+    // No k lies between 0 and the length 1, so that this asks nothing: at any k each piece is the mark itself.
+    fn cut(&self, _k: u32) -> (Mark, Mark)
+        ensures first { result.0 ≡ self.now }
+        ensures others { result.1 ≡ self.now }
+    {
+        (*self, *self)
     }
 }

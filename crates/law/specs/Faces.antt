@@ -1,6 +1,6 @@
 -- What the blocks of a list show, and the law: they hold the plain document.
 use Rattle.std.specs.Prelude.{◌≡◌, ℕ, ◌+◌, ◌/◌, ◌%◌, ◌^◌, ◌<◌, ◌≤◌, Bool, true, false, cond, ◌&&◌, ◌⊎◌, List, [], ◌∷◌, length, Some, None, Option, ◌==◌, ◌≢◌, nat_eq, nat_lt}
-use Rattle.std.specs.List.{flat_map, AllByRecursion as All}
+use Rattle.std.specs.List.{flat_map, AllByRecursion}
 use Rattle.law.specs.Plain.{Id, Entry, many, times, entries_of, Side, Source, place, start_gap, end_gap, within, Plain}
 use Rattle.law.specs.Plain.Side.{Open, Before, After}
 
@@ -43,7 +43,7 @@ Linked test at (f ∷ fs) =
 
 -- Each face has a unit.
 abbrev pub Filled : List Face → Type 0
-Filled fs = All (λ f. 0 < length f.units) fs
+Filled fs = AllByRecursion (λ f. 0 < length f.units) fs
 
 -- The n entries from the place at on lie wholly in the range; or wholly out of it, behind its end, before its start or where it is empty.
 abbrev pub Inside : Source → List Entry → ℕ → ℕ → Type 0

@@ -1,6 +1,6 @@
 -- A list of three blocks in three records.
 use Rattle.std.proofs.Common.{◌≡◌, ℕ, ◌<◌, List, [], ◌∷◌, ◌++◌, Some, None, Option, sym, refl, ◌∙◌, subst, lit<}
-use Rattle.std.specs.List.{AllByRecursion as All}
+use Rattle.std.specs.List.{AllByRecursion}
 use Rattle.content.specs.declared.content.Content.{Ghosts}
 use Rattle.table.specs.declared.block.Block.{Block}
 use Rattle.table.specs.Cells.{Face, Cell, cell, block, front, Path, cells}
@@ -21,7 +21,7 @@ module _ {C : Type 0} (K : Ghosts C) {a b c : Block C} {f g h : Face C} (ea : a 
 
   -- The cells between pre and ys may be struck.
   pub strikable : (pre ms ys : List (Cell C)) (from : Option ℕ) (n : ℕ) → three f g h ≡ pre ++ (ms ++ ys) → front (ms ++ ys) ≡ from → visible K ms ≡ n
-      → All (λ z. 0 < K.size z.face.content) (three f g h) → Strikable K (a ∷ b ∷ c ∷ []) from n
+      → AllByRecursion (λ z. 0 < K.size z.face.content) (three f g h) → Strikable K (a ∷ b ∷ c ∷ []) from n
   strikable pre ms ys from n parts at_hand sum filled = record {
     list = 0;
     start = Some 0;
@@ -32,5 +32,5 @@ module _ {C : Type 0} (K : Ghosts C) {a b c : Block C} {f g h : Face C} (ea : a 
     parts = row_is ∙ parts;
     at_hand = at_hand;
     sum = sum;
-    filled = subst (λ (xs : List (Cell C)). All (λ z. 0 < K.size z.face.content) xs) (sym row_is) filled;
+    filled = subst (λ (xs : List (Cell C)). AllByRecursion (λ z. 0 < K.size z.face.content) xs) (sym row_is) filled;
   }

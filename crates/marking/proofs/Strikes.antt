@@ -2,7 +2,7 @@
 use Rattle.std.proofs.Common.{◌≡◌, ℕ, ◌+◌, ◌-◌, ◌<◌, ◌≤◌, Bool, true, false, cond, not, ◌&&◌, List, [], ◌∷◌, ◌++◌, map, length, get_or, set, Some, None, Option, sym, refl, ap, ◌∙◌, subst, ap₂, arith}
 use lib.Bits.{bit_or, or_zero_r}
 use Rattle.std.proofs.lemmas.Bool.{true≢false}
-use Rattle.std.specs.List.{AllByRecursion as All}
+use Rattle.std.specs.List.{AllByRecursion}
 use Rattle.content.specs.declared.content.Content.{Ghosts}
 use Rattle.table.specs.declared.block.Block.{Block}
 use Rattle.table.specs.Cells.{Face, Cell, cell, block, face_of, front, cells}
@@ -45,7 +45,7 @@ module _ {C : Type 0} (K : Ghosts C) where
   unseen : (f : Face C) → 0 < K.size f.content → shown K f ≡ 0 → in_sight K f ≡ false
   unseen f = out_of_sight f.removed (K.counts f.content) (K.size f.content)
 
-  unseen-cells : (cs : List (Cell C)) → All (λ c. 0 < K.size c.face.content) cs → visible K cs ≡ 0 → (map (struck_cell K) cs ≡ cs) × (union K cs ≡ 0)
+  unseen-cells : (cs : List (Cell C)) → AllByRecursion (λ c. 0 < K.size c.face.content) cs → visible K cs ≡ 0 → (map (struck_cell K) cs ≡ cs) × (union K cs ≡ 0)
   unseen-cells [] a e = (refl, refl)
   unseen-cells (c ∷ cs) a e =
       let none : in_sight K c.face ≡ false = unseen c.face a.0 (omega arith) in
@@ -73,11 +73,11 @@ module _ {C : Type 0} {K : Ghosts C} {t : List (Block C)} {from : Option ℕ} {n
   strike-start = record { walk = marking-start w.stands w.parts w.at_hand; owed = w.sum; joins = refl }
 
   module _ {u : List (Block C)} {cur : Option ℕ} {left links : ℕ} (s : Striking K t from n w u cur left links) where
-    filled : All (λ c. 0 < K.size c.face.content) s.walk.rest
+    filled : AllByRecursion (λ c. 0 < K.size c.face.content) s.walk.rest
     filled =
         let P : Cell C → Type 0 = λ c. 0 < K.size c.face.content in
-        let ms : All P w.ms = all_front P w.ms w.ys (all_back P w.pre (w.ms ++ w.ys) (subst (λ (xs : List (Cell C)). All P xs) w.parts w.filled)) in
-        all_back P s.walk.done s.walk.rest (subst (λ (xs : List (Cell C)). All P xs) s.walk.parts ms)
+        let ms : AllByRecursion P w.ms = all_front P w.ms w.ys (all_back P w.pre (w.ms ++ w.ys) (subst (λ (xs : List (Cell C)). AllByRecursion P xs) w.parts w.filled)) in
+        all_back P s.walk.done s.walk.rest (subst (λ (xs : List (Cell C)). AllByRecursion P xs) s.walk.parts ms)
 
     pub strike-done : left ≡ 0 → Struck K t from n w u links
     strike-done e =

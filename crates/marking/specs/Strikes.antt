@@ -1,6 +1,6 @@
 -- Blocks of a list marked as removed.
 use Rattle.std.specs.Prelude.{◌≡◌, ℕ, ◌<◌, Bool, true, cond, not, ◌&&◌, ◌≢◌, List, [], ◌∷◌, ◌++◌, map, Option, bit_or}
-use Rattle.std.specs.List.{AllByRecursion as All}
+use Rattle.std.specs.List.{AllByRecursion}
 use Rattle.content.specs.declared.content.Content.{Ghosts}
 use Rattle.table.specs.declared.block.Block.{Block}
 use Rattle.table.specs.Cells.{Face, Cell, Holds, front, Apart, cells, Stands, Kept}
@@ -36,7 +36,7 @@ pub record Strikable {C : Type 0} (K : Ghosts C) (t : List (Block C)) (from : Op
   pub parts : cells t start ≡ pre ++ (ms ++ ys)
   pub at_hand : front (ms ++ ys) ≡ from
   pub sum : visible K ms ≡ n
-  pub filled : All (λ c. 0 < K.size c.face.content) (cells t start)
+  pub filled : AllByRecursion (λ c. 0 < K.size c.face.content) (cells t start)
 
 -- The cells ms are struck: what the list's cells are then, that it stands, that each list of another number keeps its cells and
 -- each record that is none of ms's what it holds, and the union of the link sets of those that were visible.

@@ -1,6 +1,6 @@
 -- What holds of every document.
 use Rattle.std.proofs.Common.{◌≡◌, ℕ, ◌≤◌, min, List, [], ◌∷◌, ◌++◌, length, take, sym, refl, ap, ◌∙◌, subst, arith, length-take}
-use Rattle.std.specs.List.{AllByRecursion as All}
+use Rattle.std.specs.List.{AllByRecursion}
 use Rattle.content.specs.declared.content.Content.{Ghosts}
 use Rattle.content.specs.Lawful.{Lawful}
 use Rattle.law.specs.Plain.{Plain, Deed, Log, plain, after, seen}
@@ -25,8 +25,8 @@ module _ {C : Type 0} {K : Ghosts C} where
   used-many {d} s = let w = s.words in simp length-take (omega arith)
 
   -- Contents fit the used words.
-  pub goods : {d : Doc C} → Sound K d → (l : ℕ) → All (Good K (length (used_words d))) (list_of d l)
-  goods {d} s l = subst (λ n. All (Good K n) (list_of d l)) (sym (used-many s)) (s.shape.good l)
+  pub goods : {d : Doc C} → Sound K d → (l : ℕ) → AllByRecursion (Good K (length (used_words d))) (list_of d l)
+  goods {d} s l = subst (λ n. AllByRecursion (Good K n) (list_of d l)) (sym (used-many s)) (s.shape.good l)
 
   -- The visible units of a list's blocks are those of the plain list.
   pub seen-blocks : Lawful K → {d : Doc C} {p : Plain} → Sound K d → Is K p d → (l : ℕ) → visible K (list_of d l) ≡ seen (p.lists l)

@@ -1,6 +1,6 @@
 -- A new document, and opening a list.
 use Rattle.std.proofs.Common.{◌≡◌, ℕ, zero, suc, ◌*◌, ◌<◌, ◌≤◌, min, Bool, true, false, cond, List, [], ◌∷◌, ◌++◌, map, length, get_or, take, replicate, None, Ok, Err, Option, Result, sym, refl, ap, ◌∙◌, subst, arith}
-use Rattle.std.specs.List.{AllByRecursion as All}
+use Rattle.std.specs.List.{AllByRecursion}
 use Rattle.std.specs.Str.{bytes_eq}
 use Rattle.content.specs.declared.content.Content.{Ghosts}
 use Rattle.law.specs.Plain.{Plain, Log, plain, empty, with_new, after}
@@ -55,8 +55,8 @@ module _ {C : Type 0} (K : Ghosts C) (t : List (Block C)) (ws : List ℕ) (names
   no-shape : Shape K 0 t 0 (replicate 16 None)
   no-shape = record {
     stands = λ l. subst (λ o. Stands t l o) (sym (at_front l)) (stands_of t l None [] tt refl);
-    low = λ l. subst (λ (cs : List (Cell C)). All (λ c. c.at < 0) cs) (sym (none-there l)) tt;
-    good = λ l. subst (λ (cs : List (Cell C)). All (Good K 0) cs) (sym (none-there l)) tt;
+    low = λ l. subst (λ (cs : List (Cell C)). AllByRecursion (λ c. c.at < 0) cs) (sym (none-there l)) tt;
+    good = λ l. subst (λ (cs : List (Cell C)). AllByRecursion (Good K 0) cs) (sym (none-there l)) tt;
     room = omega arith;
     count = none-in-all 16;
   }

@@ -1,6 +1,6 @@
 -- A block put after another, which may get a new face too.
 use Rattle.std.proofs.Common.{◌≡◌, ℕ, ◌<◌, ◌≢◌, List, [], ◌∷◌, ◌++◌, length, set, Some, None, Option, sym, refl, ap, ◌∙◌, subst, ap₂, length-set}
-use Rattle.std.specs.List.{AllByRecursion as All}
+use Rattle.std.specs.List.{AllByRecursion}
 use Rattle.table.specs.declared.block.Block.{Block}
 use Rattle.table.specs.Cells.{Face, Cell, cell, block, Holds, front, last, Seg, Path, Apart}
 use Rattle.table.specs.Cuts.{relinked, put_after}
@@ -28,7 +28,7 @@ module _ {C : Type 0} where
   relinked-holds t l p [] i b h a = h
   relinked-holds t l p (x ∷ xs) i b h a = holds_other t i x.at b (block l p (front xs) x.face) h (λ e. a.0 (sym e))
 
-  pub relinked-seg : (t : List (Block C)) (l m : ℕ) (p : Option ℕ) (xs : List (Cell C)) (q : Option ℕ) (ys : List (Cell C)) (n : Option ℕ) → Seg t m q ys n → All (λ x. Apart x.at ys) xs → Seg (relinked t l p xs) m q ys n
+  pub relinked-seg : (t : List (Block C)) (l m : ℕ) (p : Option ℕ) (xs : List (Cell C)) (q : Option ℕ) (ys : List (Cell C)) (n : Option ℕ) → Seg t m q ys n → AllByRecursion (λ x. Apart x.at ys) xs → Seg (relinked t l p xs) m q ys n
   relinked-seg t l m p [] q ys n s a = s
   relinked-seg t l m p (x ∷ xs) q ys n s a = write-apart t m q ys n x.at (block l p (front xs) x.face) s a.0
 
@@ -64,7 +64,7 @@ module _ {C : Type 0} where
           let b1 : Block C = block l (last None pre) (Some j) f1 in
           let t1 : List (Block C) = set t j b2 in
           let t2 : List (Block C) = set t1 i b1 in
-          let later-on : All (λ y. Apart y.at pre) (cell i f ∷ post) = path-avoids t l None pre (cell i f ∷ post) path in
+          let later-on : AllByRecursion (λ y. Apart y.at pre) (cell i f ∷ post) = path-avoids t l None pre (cell i f ∷ post) path in
           let i-post : Apart i post = path-apart t l (last None pre) (cell i f) post here in
           let room2 : i < length t1 = simp length-set here.0.within in
           let ahead : Seg t l None pre (Some i) = seg-front t l None pre (cell i f ∷ post) None path in
@@ -90,7 +90,7 @@ module _ {C : Type 0} where
     -- A list of another number stands as it did.
     pub after-other : (j m : ℕ) (ys : List (Cell C)) (f1 f2 : Face C) → l ≢ m → Path t m None ys → Apart j ys → Path (put_after t l i j (last None pre) f1 f2 post) m None ys
     after-other j m ys f1 f2 ne other free =
-        let apart : All (λ x. Apart x.at ys) (cell i f ∷ post) = lists-apart t l m (last None pre) None None None (cell i f ∷ post) ys here other ne in
+        let apart : AllByRecursion (λ x. Apart x.at ys) (cell i f ∷ post) = lists-apart t l m (last None pre) None None None (cell i f ∷ post) ys here other ne in
         let b2 : Block C = block l (Some i) (front post) f2 in
         let b1 : Block C = block l (last None pre) (Some j) f1 in
         relinked-seg (set (set t j b2) i b1) l m (Some j) post None ys None

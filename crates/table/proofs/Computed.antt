@@ -2,7 +2,7 @@
 use Rattle.std.proofs.Common.{◌≡◌, ℕ, zero, suc, ◌<◌, ◌≤◌, ◌≢◌, ◌⊎◌, List, [], ◌∷◌, length, Some, None, Option, sym, refl, ap, ◌∙◌, subst, inl, inr, arith}
 use Rattle.std.proofs.lemmas.Option.{slice_get_read}
 use Rattle.std.proofs.lemmas.Bool.{cases_eq}
-use Rattle.std.specs.List.{slice_get, AllByRecursion as All}
+use Rattle.std.specs.List.{slice_get, AllByRecursion}
 use Rattle.table.specs.declared.block.Block.{Block}
 use Rattle.table.specs.Cells.{Cell, cell, block, face_of, front, Path, Apart, with_block, cells_from, cells, Stands, Kept}
 use Rattle.table.proofs.Paths.{path-apart}
@@ -13,7 +13,7 @@ Distinct [] = Unit {0}
 Distinct (x ∷ xs) = Apart x.at xs × Distinct xs
 
 abbrev Below : {C : Type 0} → ℕ → List (Cell C) → Type 0
-Below n cs = All (λ c. c.at < n) cs
+Below n cs = AllByRecursion (λ c. c.at < n) cs
 
 module _ {C : Type 0} where
   path-distinct : (t : List (Block C)) (l : ℕ) (p : Option ℕ) (xs : List (Cell C)) → Path t l p xs → Distinct xs
@@ -28,7 +28,7 @@ module _ {C : Type 0} where
   lower n [] a b = tt
   lower n (x ∷ xs) a b = (let ne : x.at ≢ n = a.0 in omega arith, lower n xs a.1 b.1)
 
-  -- All but at most one of the cells.
+  -- AllByRecursion but at most one of the cells.
   record Rest (n : ℕ) (xs : List (Cell C)) : Type 0 where
     left : List (Cell C)
     distinct : Distinct left

@@ -1,7 +1,7 @@
 -- What stands beside a gap.
 use Rattle.std.proofs.Common.{◌≡◌, ℕ, zero, suc, ◌-◌, ◌<◌, List, [], ◌∷◌, ◌++◌, length, get_or, Some, None, Option, sym, refl, ap, ◌∙◌, subst, append_assoc, arith}
 use Rattle.std.proofs.lemmas.Option.{slice_get_read}
-use Rattle.std.specs.List.{slice_get, AllByRecursion as All}
+use Rattle.std.specs.List.{slice_get, AllByRecursion}
 use Rattle.content.specs.declared.content.Content.{Ghosts}
 use Rattle.table.specs.declared.block.Block.{Block}
 use Rattle.table.specs.Cells.{Cell, cell, block, face_of, front, last, Path, with_block, cells_from, cells}
@@ -51,7 +51,7 @@ module _ {C : Type 0} where
         pub left-numbered : Numbered K (face_of b)
         left-numbered =
             subst (λ (y : Block C). Numbered K (face_of y)) (sym b-is)
-            (all_back (λ (c : Cell C). Numbered K c.face) end.before (cell i end.face ∷ w.post) (subst (λ (xs : List (Cell C)). All (λ c. Numbered K c.face) xs) parts w.numbered)).0
+            (all_back (λ (c : Cell C). Numbered K c.face) end.before (cell i end.face ∷ w.post) (subst (λ (xs : List (Cell C)). AllByRecursion (λ c. Numbered K c.face) xs) parts w.numbered)).0
 
         pub left-some : (n : ℕ) → n ≡ K.size b.content → LeftIs K w.pre w.post (record { last = Some (later b.id (n - 1)); links = b.links; right = b.right })
         left-some n en = record {

@@ -1,7 +1,7 @@
 -- Runs of cells under writes to the table.
 use Rattle.std.proofs.Common.{◌≡◌, ℕ, ◌<◌, ◌≤◌, ◌≢◌, List, [], ◌∷◌, ◌++◌, length, set, Some, None, Option, sym, refl, ap, ◌∙◌, subst, ap₂, arith, length-set}
 use Rattle.std.proofs.lemmas.List.{get_or-set_same, get_or-set_other, get_or_default}
-use Rattle.std.specs.List.{AllByRecursion as All}
+use Rattle.std.specs.List.{AllByRecursion}
 use Rattle.table.specs.declared.block.Block.{Block}
 use Rattle.table.specs.Cells.{Cell, cell, block, face_of, Holds, front, front_or, last, Seg, Path, Apart}
 
@@ -22,11 +22,11 @@ none_some x e = let z : ◌≡◌ {A = ℕ} 0 1 = cc in omega arith
 pub some_some : {X : Type 0} (x y : X) → Some x ≡ Some y → x ≡ y
 some_some x y e = cc
 
-pub all_front : {X : Type 0} (P : X → Type 0) (xs ys : List X) → All P (xs ++ ys) → All P xs
+pub all_front : {X : Type 0} (P : X → Type 0) (xs ys : List X) → AllByRecursion P (xs ++ ys) → AllByRecursion P xs
 all_front P [] ys a = tt
 all_front P (x ∷ xs) ys a = (a.0, all_front P xs ys a.1)
 
-pub all_back : {X : Type 0} (P : X → Type 0) (xs ys : List X) → All P (xs ++ ys) → All P ys
+pub all_back : {X : Type 0} (P : X → Type 0) (xs ys : List X) → AllByRecursion P (xs ++ ys) → AllByRecursion P ys
 all_back P [] ys a = a
 all_back P (x ∷ xs) ys a = all_back P xs ys a.1
 
@@ -76,7 +76,7 @@ module _ {C : Type 0} where
         other-list t m (Some y.at) ys n i b s.1 h ne,
       )
 
-  pub lists-apart : (t : List (Block C)) (l m : ℕ) (p q n o : Option ℕ) (xs ys : List (Cell C)) → Seg t l p xs n → Seg t m q ys o → l ≢ m → All (λ x. Apart x.at ys) xs
+  pub lists-apart : (t : List (Block C)) (l m : ℕ) (p q n o : Option ℕ) (xs ys : List (Cell C)) → Seg t l p xs n → Seg t m q ys o → l ≢ m → AllByRecursion (λ x. Apart x.at ys) xs
   lists-apart t l m p q n o [] ys a b ne = tt
   lists-apart t l m p q n o (x ∷ xs) ys a b ne = (
     other-list t m q ys o x.at (block l p (front_or xs n) x.face) b a.0 ne,
@@ -109,7 +109,7 @@ module _ {C : Type 0} where
   path-apart t l p x xs a = apart_from t l l p (Some x.at) x xs xs a a.1 (omega arith)
 
   -- What stands later in a path stands nowhere before.
-  pub path-avoids : (t : List (Block C)) (l : ℕ) (p : Option ℕ) (xs ys : List (Cell C)) → Path t l p (xs ++ ys) → All (λ y. Apart y.at xs) ys
+  pub path-avoids : (t : List (Block C)) (l : ℕ) (p : Option ℕ) (xs ys : List (Cell C)) → Path t l p (xs ++ ys) → AllByRecursion (λ y. Apart y.at xs) ys
   path-avoids t l p xs [] a = tt
   path-avoids t l p xs (y ∷ ys) a = (before t l p xs y ys a, skip xs y ys (path-avoids t l p (xs ++ y ∷ []) ys (subst (λ zs. Path t l p zs) (regroup xs y ys) a)))
     where
@@ -124,7 +124,7 @@ module _ {C : Type 0} where
         before t l (Some x.at) xs y ys a.1,
       )
 
-      skip : (xs : List (Cell C)) (y : Cell C) (zs : List (Cell C)) → All (λ z. Apart z.at (xs ++ y ∷ [])) zs → All (λ z. Apart z.at xs) zs
+      skip : (xs : List (Cell C)) (y : Cell C) (zs : List (Cell C)) → AllByRecursion (λ z. Apart z.at (xs ++ y ∷ [])) zs → AllByRecursion (λ z. Apart z.at xs) zs
       skip xs y [] a = tt
       skip xs y (z ∷ zs) a = (all_front (λ (c : Cell C). c.at ≢ z.at) xs (y ∷ []) a.0, skip xs y zs a.1)
 

@@ -1,6 +1,6 @@
 -- What the code of splice_in writes, and what that is of the cells.
 use Rattle.std.proofs.Common.{◌≡◌, ℕ, ◌<◌, ◌≢◌, List, [], ◌∷◌, ◌++◌, length, get_or, set, Some, None, Option, sym, refl, ap, ◌∙◌, subst, ap₂, append_assoc}
-use Rattle.std.specs.List.{AllByRecursion as All}
+use Rattle.std.specs.List.{AllByRecursion}
 use Rattle.table.specs.declared.block.Block.{Block}
 use Rattle.table.specs.Cells.{Face, Cell, cell, block, face_of, front, last, Path, Apart, cells}
 use Rattle.table.specs.Cuts.{relinked, put_after}
@@ -42,7 +42,7 @@ module _ {C : Type 0} where
   told_at t l q (x ∷ []) i f n = refl
   told_at t l q (x ∷ y ∷ xs) i f n = told_at t l (Some x.at) (y ∷ xs) i f n
 
-  told-seg : (t : List (Block C)) (l m : ℕ) (p : Option ℕ) (xs : List (Cell C)) (r : Option ℕ) (ys : List (Cell C)) → Path t m None ys → All (λ x. Apart x.at ys) xs → Path (told t l p xs r) m None ys
+  told-seg : (t : List (Block C)) (l m : ℕ) (p : Option ℕ) (xs : List (Cell C)) (r : Option ℕ) (ys : List (Cell C)) → Path t m None ys → AllByRecursion (λ x. Apart x.at ys) xs → Path (told t l p xs r) m None ys
   told-seg t l m p [] r ys s a = s
   told-seg t l m p (x ∷ []) r ys s a = write-apart t m None ys None x.at (block l p r x.face) s a.0
   told-seg t l m p (x ∷ y ∷ xs) r ys s a = told-seg t l m (Some x.at) (y ∷ xs) r ys s a.1
@@ -57,7 +57,7 @@ module _ {C : Type 0} where
   between-other : (t : List (Block C)) (l m j : ℕ) (pre : List (Cell C)) (f : Face C) (post ys : List (Cell C))
       → Path t l None (pre ++ post) → Path t m None ys → l ≢ m → Apart j ys → Path (put_between t l j pre f post) m None ys
   between-other t l m j pre f post ys path other ne free =
-      let apart : All (λ x. Apart x.at ys) (pre ++ post) = lists-apart t l m None None None None (pre ++ post) ys path other ne in
+      let apart : AllByRecursion (λ x. Apart x.at ys) (pre ++ post) = lists-apart t l m None None None None (pre ++ post) ys path other ne in
       let b : Block C = block l (last None pre) (front post) f in
       relinked-seg (told (set t j b) l None pre (Some j)) l m (Some j) post None ys None
       (told-seg (set t j b) l m None pre (Some j) ys (write-apart t m None ys None j b other free) (all_front (λ (x : Cell C). Apart x.at ys) pre post apart))

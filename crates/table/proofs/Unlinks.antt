@@ -3,7 +3,7 @@ use Rattle.std.proofs.Common.{◌≡◌, ℕ, zero, suc, ◌+◌, ◌-◌, ◌*�
 use lib.Bits.{bit_and}
 use Rattle.std.proofs.lemmas.Nat.{one_shl}
 use Rattle.std.proofs.lemmas.List.Edits.{map_over_more}
-use Rattle.std.specs.List.{AllByRecursion as All}
+use Rattle.std.specs.List.{AllByRecursion}
 use Rattle.table.specs.declared.block.Block.{Block}
 use Rattle.table.specs.Cells.{Cell, block, Holds, front, Path, cells}
 use Rattle.table.specs.Clears.{cleared, cleared_cell, Cleared}
@@ -43,7 +43,7 @@ module _ {C : Type 0} where
       is = ap (cleared n) h.is ∙ sym (get_or_through (cleared n) t k i b lt) ∙ ap (λ v. get_or v i (cleared n b)) (sym is);
     }
 
-    path-through : (l : ℕ) (p : Option ℕ) (cs : List (Cell C)) → Path t l p cs → All (λ c. c.at < k) cs → Path u l p (map (cleared_cell n) cs)
+    path-through : (l : ℕ) (p : Option ℕ) (cs : List (Cell C)) → Path t l p cs → AllByRecursion (λ c. c.at < k) cs → Path u l p (map (cleared_cell n) cs)
     path-through l p [] s a = tt
     path-through l p (c ∷ cs) s a = (
       subst (λ o. Holds u c.at (block l p o (cleared_cell n c).face)) (sym (front-through n cs)) (holds-through c.at (block l p (front cs) c.face) a.0 s.0),

@@ -1,6 +1,6 @@
 -- The lists of a table, by the cells that they are made of.
 use Rattle.std.specs.Prelude.{◌≡◌, ℕ, zero, suc, ◌<◌, Bool, false, ◌≢◌, List, [], ◌∷◌, length, Some, None, Option, slice_index_or}
-use Rattle.std.specs.List.{slice_get, AllByRecursion as All}
+use Rattle.std.specs.List.{slice_get, AllByRecursion}
 use Rattle.source.specs.declared.id.Id.{Id}
 use Rattle.table.specs.declared.block.Block.{Block}
 
@@ -65,7 +65,7 @@ Path t l p cs = Seg t l p cs None
 
 -- The record i is none of the cells'.
 abbrev pub Apart : {C : Type 0} → ℕ → List (Cell C) → Type 0
-Apart i cs = All (λ c. c.at ≢ i) cs
+Apart i cs = AllByRecursion (λ c. c.at ≢ i) cs
 
 -- What f makes of a block, nothing if there is none.
 abbrev pub with_block : {X Y : Type 0} → Option X → (X → List Y) → List Y

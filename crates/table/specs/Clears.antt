@@ -1,6 +1,6 @@
 -- A link taken out of the sets of blocks.
 use Rattle.std.specs.Prelude.{◌≡◌, ℕ, ◌-◌, ◌^◌, ◌<◌, List, ◌++◌, map, take, drop, Option, bit_and}
-use Rattle.std.specs.List.{AllByRecursion as All}
+use Rattle.std.specs.List.{AllByRecursion}
 use Rattle.table.specs.declared.block.Block.{Block}
 use Rattle.table.specs.Cells.{Face, Cell, cell, block, face_of, cells, Stands}
 
@@ -20,5 +20,5 @@ cleared_cell n c = cell c.at (without n c.face)
 -- and what the cells are of each list that lies in these records.
 pub record Cleared {C : Type 0} (t : List (Block C)) (used n : ℕ) (u : List (Block C)) : Type 0 where
   pub table : u ≡ map (cleared n) (take used t) ++ drop used t
-  pub lists : (l : ℕ) (start : Option ℕ) → Stands t l start → All (λ c. c.at < used) (cells t start) → Stands u l start
-  pub now_cells : (l : ℕ) (start : Option ℕ) → Stands t l start → All (λ c. c.at < used) (cells t start) → cells u start ≡ map (cleared_cell n) (cells t start)
+  pub lists : (l : ℕ) (start : Option ℕ) → Stands t l start → AllByRecursion (λ c. c.at < used) (cells t start) → Stands u l start
+  pub now_cells : (l : ℕ) (start : Option ℕ) → Stands t l start → AllByRecursion (λ c. c.at < used) (cells t start) → cells u start ≡ map (cleared_cell n) (cells t start)

@@ -1,6 +1,6 @@
 -- What stands beside a gap of a list.
 use Rattle.std.specs.Prelude.{◌≡◌, ℕ, ◌+◌, ◌-◌, ◌^◌, ◌<◌, ◌≤◌, List, [], ◌∷◌, ◌++◌, Some, None, Option}
-use Rattle.std.specs.List.{AllByRecursion as All}
+use Rattle.std.specs.List.{AllByRecursion}
 use Rattle.source.specs.declared.id.Id.{Id}
 use Rattle.content.specs.declared.content.Content.{Ghosts}
 use Rattle.table.specs.declared.block.Block.{Block}
@@ -22,7 +22,7 @@ pub record Gap {C : Type 0} (K : Ghosts C) (t : List (Block C)) (start left : Op
   pub stands : Stands t list start
   pub parts : cells t start ≡ pre ++ post
   pub ends : last None pre ≡ left
-  pub numbered : All (λ c. Numbered K c.face) (cells t start)
+  pub numbered : AllByRecursion (λ c. Numbered K c.face) (cells t start)
 
 -- The last id of the cells.
 abbrev pub last_id : {C : Type 0} → Ghosts C → List (Cell C) → Option Id

@@ -1,6 +1,6 @@
 -- Where an id and a visible index are found in a list.
 use Rattle.std.specs.Prelude.{◌≡◌, ℕ, ◌+◌, ◌<◌, ◌≤◌, true, false, cond, List, [], ◌∷◌, ◌++◌, Some, None, Option}
-use Rattle.std.specs.List.{AllByRecursion as All}
+use Rattle.std.specs.List.{AllByRecursion}
 use Rattle.source.specs.declared.id.Id.{Id}
 use Rattle.content.specs.declared.content.Content.{Ghosts}
 use Rattle.table.specs.declared.block.Block.{Block}
@@ -21,7 +21,7 @@ pub record Has {C : Type 0} (K : Ghosts C) (id : Id) (f : Face C) (o : ℕ) : Ty
 
 -- The id is that of no unit of the cells.
 abbrev pub Lacks : {C : Type 0} → Ghosts C → Id → List (Cell C) → Type 0
-Lacks K id cs = All (λ c. (o : ℕ) → Has K id c.face o → ⊥) cs
+Lacks K id cs = AllByRecursion (λ c. (o : ℕ) → Has K id c.face o → ⊥) cs
 
 -- The first of the cells that has the id is at i, and has it at offset o.
 pub record FoundAt {C : Type 0} (K : Ghosts C) (id : Id) (cs : List (Cell C)) (i o : ℕ) : Type 0 where

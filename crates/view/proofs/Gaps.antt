@@ -2,7 +2,7 @@
 use Rattle.std.proofs.Common.{◌≡◌, ℕ, zero, suc, ◌+◌, ◌<◌, ◌≤◌, Bool, true, false, ◌⊎◌, List, [], ◌∷◌, ◌++◌, length, sym, refl, ap, ◌∙◌, subst, ap₂, inl, inr, append_assoc, arith, length-append}
 use Rattle.std.proofs.lemmas.List.{append-nil}
 use Rattle.std.proofs.lemmas.Bool.{cases_Bool}
-use Rattle.std.specs.List.{AllByRecursion as All}
+use Rattle.std.specs.List.{AllByRecursion}
 use Rattle.content.specs.declared.content.Content.{Ghosts}
 use Rattle.content.specs.Lawful.{Lawful}
 use Rattle.law.specs.Plain as plain
@@ -49,7 +49,7 @@ gap-behind es rest r =
 
 module _ {C : Type 0} (K : Ghosts C) (kind : Lawful K) (ws : List ℕ) where
   -- Cells that end in a visible block show entries that end in a visible one.
-  shown-lasts : (c : Cell C) (cs : List (Cell C)) → All (Good K (length ws)) (c ∷ cs) → EndsShown K (c ∷ cs) → Lasts (laid (shown K ws (c ∷ cs)))
+  shown-lasts : (c : Cell C) (cs : List (Cell C)) → AllByRecursion (Good K (length ws)) (c ∷ cs) → EndsShown K (c ∷ cs) → Lasts (laid (shown K ws (c ∷ cs)))
   shown-lasts c [] good ends =
       let f : Face C = c.face in
       let n : length (K.units ws c.face.content) ≡ K.size c.face.content = kind.sized ws c.face.content good.0.fits in
@@ -58,12 +58,12 @@ module _ {C : Type 0} (K : Ghosts C) (kind : Lawful K) (ws : List ℕ) where
       (run_lasts _ (K.units ws c.face.content) (omega arith))
   shown-lasts c (d ∷ cs) good ends = lasts_after (entries (shows K ws c.face)) (laid (shown K ws (d ∷ cs))) (shown-lasts d cs good.1 ends)
 
-  pub gap_is : (pre : List (Cell C)) (rest : List Entry) → All (Good K (length ws)) pre → EndsShown K pre → length (laid (shown K ws pre)) ≡ gap (lookups.visible K pre) (laid (shown K ws pre) ++ rest)
+  pub gap_is : (pre : List (Cell C)) (rest : List Entry) → AllByRecursion (Good K (length ws)) pre → EndsShown K pre → length (laid (shown K ws pre)) ≡ gap (lookups.visible K pre) (laid (shown K ws pre) ++ rest)
   gap_is [] rest good ends = refl
   gap_is (c ∷ cs) rest good ends =
       gap-behind (laid (shown K ws (c ∷ cs))) rest (shown-lasts c cs good ends) ∙ ap (λ n. gap n (laid (shown K ws (c ∷ cs)) ++ rest)) (seen-shown K ws kind (c ∷ cs) good)
 
-  module _ (F : ℕ → List law.Face) (p : Plain) (l : ℕ) {i j : ℕ} {cs pre post : List (Cell C)} (g : Gapped K i j cs pre post) (here : F l ≡ shown K ws cs) (good : All (Good K (length ws)) cs) (held : Law F p) where
+  module _ (F : ℕ → List law.Face) (p : Plain) (l : ℕ) {i j : ℕ} {cs pre post : List (Cell C)} (g : Gapped K i j cs pre post) (here : F l ≡ shown K ws cs) (good : AllByRecursion (Good K (length ws)) cs) (held : Law F p) where
     pub gapped-law : Law (put l (shown K ws (pre ++ post)) F) p
     gapped-law = elim (cases_Bool (inside K i cs)) [
       | inl yes' ↦ subst (λ (xs : List (Cell C)). Law (put l (shown K ws xs) F) p) (g.cut yes').1 (cut-law K kind ws F p l j cs (g.cut yes').0 here good held)

@@ -2,7 +2,7 @@
 use Rattle.std.proofs.Common.{◌≡◌, ℕ, ◌+◌, ◌-◌, ◌^◌, ◌<◌, ◌≤◌, List, [], ◌∷◌, ◌++◌, length, Option, sym, refl, ap, ◌∙◌, subst, inl, inr, arith}
 use lib.Count.{ones}
 use Rattle.std.proofs.lemmas.Bool.{cases_lt}
-use Rattle.std.specs.List.{AllByRecursion as All}
+use Rattle.std.specs.List.{AllByRecursion}
 use Rattle.content.specs.declared.content.Content.{Ghosts}
 use Rattle.content.specs.Lawful.{Lawful}
 use Rattle.source.specs.declared.id.Id.{Id}
@@ -25,8 +25,8 @@ use Rattle.view.specs.View.{shows, shown, view}
 use Rattle.view.proofs.Views.{view-at, shown-append}
 
 module _ {C : Type 0} (K : Ghosts C) (kind : Lawful K) (ws : List ℕ) (t : List (Block C)) (fronts : List (Option ℕ)) (id : Id)
-    (good : (l : ℕ) → All (Good K (length ws)) (blocks_of t fronts l)) (p : Plain) (lawful : Law (view K ws t fronts) p) where
-  lacking : (cs : List (Cell C)) (xs : List law.Face) (f : law.Face) (ys : List law.Face) → All (Good K (length ws)) cs → Lacks K id cs → shown K ws cs ≡ xs ++ f ∷ ys → In (plain_id id) f → ⊥
+    (good : (l : ℕ) → AllByRecursion (Good K (length ws)) (blocks_of t fronts l)) (p : Plain) (lawful : Law (view K ws t fronts) p) where
+  lacking : (cs : List (Cell C)) (xs : List law.Face) (f : law.Face) (ys : List law.Face) → AllByRecursion (Good K (length ws)) cs → Lacks K id cs → shown K ws cs ≡ xs ++ f ∷ ys → In (plain_id id) f → ⊥
   lacking [] [] f ys g lacks e h = let z : ◌≡◌ {A = ℕ} 0 1 = cc in omega arith
   lacking [] (x ∷ xs) f ys g lacks e h = let z : ◌≡◌ {A = ℕ} 0 1 = cc in omega arith
   lacking (c ∷ cs) [] f ys g lacks e h =
@@ -53,7 +53,7 @@ module _ {C : Type 0} (K : Ghosts C) (kind : Lawful K) (ws : List ℕ) (t : List
 
     in_face : In (plain_id id) (shows K ws w.face)
     in_face =
-        let g : Good K (length ws) (cell i w.face) = all_at (Good K (length ws)) w.pre (cell i w.face) w.post (subst (λ (cs : List (Cell C)). All (Good K (length ws)) cs) w.parts (good l)) in
+        let g : Good K (length ws) (cell i w.face) = all_at (Good K (length ws)) w.pre (cell i w.face) w.post (subst (λ (cs : List (Cell C)). AllByRecursion (Good K (length ws)) cs) w.parts (good l)) in
         let n : length (K.units ws w.face.content) ≡ K.size w.face.content = kind.sized ws w.face.content g.fits in
         let a = w.has.clock in
         let b = w.has.inside in

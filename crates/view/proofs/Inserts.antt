@@ -1,7 +1,7 @@
 -- A new block, and the law.
 use Rattle.std.proofs.Common.{◌≡◌, ℕ, ◌+◌, ◌-◌, ◌<◌, ◌≤◌, Bool, false, ◌&&◌, ◌||◌, ◌≢◌, List, [], ◌∷◌, ◌++◌, length, Some, None, Option, sym, refl, ap, ◌∙◌, subst, ap₂, arith}
 use Rattle.std.specs.Option.{option_map}
-use Rattle.std.specs.List.{AllByRecursion as All}
+use Rattle.std.specs.List.{AllByRecursion}
 use Rattle.content.specs.declared.content.Content.{Ghosts}
 use Rattle.content.specs.Lawful.{Lawful}
 use Rattle.source.specs.declared.id.Id.{Id}
@@ -42,7 +42,7 @@ module _ {C : Type 0} (K : Ghosts C) (kind : Lawful K) (ws : List ℕ) where
   right-links [] = refl
   right-links (c ∷ cs) = refl
 
-  left-id : (pre : List (Cell C)) → All (Good K (length ws)) pre → option_map rule.last_id (last_of (shown K ws pre)) ≡ option_map plain_id (last_id K pre)
+  left-id : (pre : List (Cell C)) → AllByRecursion (Good K (length ws)) pre → option_map rule.last_id (last_of (shown K ws pre)) ≡ option_map plain_id (last_id K pre)
   left-id [] good = refl
   left-id (c ∷ []) good = ap (λ n. Some (record { client = c.face.id.client; clock = c.face.id.clock + (n - 1) })) (kind.sized ws c.face.content good.0.fits)
   left-id (c ∷ d ∷ cs) good = left-id (d ∷ cs) good.1
@@ -51,7 +51,7 @@ module _ {C : Type 0} (K : Ghosts C) (kind : Lawful K) (ws : List ℕ) where
   right-id [] = refl
   right-id (c ∷ cs) = refl
 
-  joined : (p : Plain) (links : Links) (l : ℕ) (pre post : List (Cell C)) (w : ℕ) → All (Good K (length ws)) pre → ((n : ℕ) → link_in links n ≡ p.links n)
+  joined : (p : Plain) (links : Links) (l : ℕ) (pre post : List (Cell C)) (w : ℕ) → AllByRecursion (Good K (length ws)) pre → ((n : ℕ) → link_in links n ≡ p.links n)
       → Joins K links l pre post w → rule.Joins p l (last_of (shown K ws pre)) (first_of (shown K ws post)) w
   joined p links l pre post w good live j n =
       j n
@@ -60,7 +60,7 @@ module _ {C : Type 0} (K : Ghosts C) (kind : Lawful K) (ws : List ℕ) where
       (ap₂ ◌||◌ (ap (bit n) (right-links post)) (ap₂ (λ s o. ends_here s l o) (sym (live n)) (right-id post))))
 
   module _ (links : Links) (t u : List (Block C)) (fronts now-fronts : List (Option ℕ)) (used limit l i : ℕ) (id : Id) (x : C) (o : Outcome)
-      (d : InsertDone K links t u fronts now-fronts used limit l i id x o) (good : All (Good K (length ws)) (blocks_of t fronts l)) (some : 0 < K.size x) (fits : K.reach x ≤ length ws)
+      (d : InsertDone K links t u fronts now-fronts used limit l i id x o) (good : AllByRecursion (Good K (length ws)) (blocks_of t fronts l)) (some : 0 < K.size x) (fits : K.reach x ≤ length ws)
       (p : Plain) (live : (n : ℕ) → link_in links n ≡ p.links n) (clock : id.clock ≡ p.counts id.client) (held : Law (view K ws t fronts) p) where
     -- The faces once the gap is open.
     abbrev pub open-faces : ℕ → List law.Face
@@ -69,7 +69,7 @@ module _ {C : Type 0} (K : Ghosts C) (kind : Lawful K) (ws : List ℕ) where
     open-law : Law open-faces p
     open-law = gapped-law K kind ws (view K ws t fronts) p l d.gapped (view-at K ws t fronts l _ refl) good held
 
-    pre-good : All (Good K (length ws)) d.pre
+    pre-good : AllByRecursion (Good K (length ws)) d.pre
     pre-good = all_front (Good K (length ws)) d.pre d.post (gapped-good (length ws) kind d.gapped good)
 
     open-parts : open-faces l ≡ shown K ws d.pre ++ shown K ws d.post

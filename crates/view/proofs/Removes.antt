@@ -1,7 +1,7 @@
 -- A removal, and the law.
 use Rattle.std.proofs.Common.{◌≡◌, ℕ, ◌+◌, Bool, true, false, cond, not, ◌&&◌, ◌||◌, ◌≢◌, List, [], ◌∷◌, ◌++◌, map, length, Option, sym, refl, ap, ◌∙◌, subst, ap₂, inl}
 use lib.Bits.{bit_or}
-use Rattle.std.specs.List.{AllByRecursion as All}
+use Rattle.std.specs.List.{AllByRecursion}
 use Rattle.content.specs.declared.content.Content.{Ghosts}
 use Rattle.content.specs.Lawful.{Lawful}
 use Rattle.law.specs.Plain.{Plain, put, after}
@@ -40,11 +40,11 @@ module _ {C : Type 0} (K : Ghosts C) (kind : Lawful K) (ws : List ℕ) where
   union-shown (c ∷ cs) = ap (λ n. cond (K.counts c.face.content && not c.face.removed) (bit_or c.face.links n) n) (union-shown cs)
 
   module _ (t u : List (Block C)) (fronts : List (Option ℕ)) (used limit l i n : ℕ) (o : Outcome) (d : RemoveDone K t u fronts used limit l i n o)
-      (good : All (Good K (length ws)) (blocks_of t fronts l)) (p : Plain) (lawful : Law (view K ws t fronts) p) where
-    mid-good : All (Good K (length ws)) (d.upto ++ d.rest)
+      (good : AllByRecursion (Good K (length ws)) (blocks_of t fronts l)) (p : Plain) (lawful : Law (view K ws t fronts) p) where
+    mid-good : AllByRecursion (Good K (length ws)) (d.upto ++ d.rest)
     mid-good = gapped-good (length ws) kind d.after_last good
 
-    cut-good : All (Good K (length ws)) (d.pre ++ (d.ms ++ d.ys))
+    cut-good : AllByRecursion (Good K (length ws)) (d.pre ++ (d.ms ++ d.ys))
     cut-good = gapped-good (length ws) kind d.before_first mid-good
 
     abbrev pub mid-faces : ℕ → List law.Face

@@ -1,7 +1,7 @@
 -- The faces of lists that change.
 use Rattle.std.proofs.Common.{◌≡◌, ℕ, ◌+◌, ◌≤◌, Bool, true, false, cond, not, ◌&&◌, ◌≢◌, ◌⊎◌, List, [], ◌∷◌, ◌++◌, length, Option, sym, refl, ap, ◌∙◌, subst, ap₂, inl, inr}
 use Rattle.std.proofs.lemmas.Bool.{cases_eq}
-use Rattle.std.specs.List.{AllByRecursion as All}
+use Rattle.std.specs.List.{AllByRecursion}
 use Rattle.content.specs.declared.content.Content.{Ghosts}
 use Rattle.content.specs.Lawful.{Lawful}
 use Rattle.law.specs.Plain.{Plain, seen, put}
@@ -33,7 +33,7 @@ module _ {C : Type 0} (K : Ghosts C) (ws : List ℕ) where
   shown-append [] ys = refl
   shown-append (x ∷ xs) ys = ap (λ zs. shows K ws x.face ∷ zs) (shown-append xs ys)
 
-  pub seen-shown : Lawful K → (cs : List (Cell C)) → All (Good K (length ws)) cs → seen (laid (shown K ws cs)) ≡ lookups.visible K cs
+  pub seen-shown : Lawful K → (cs : List (Cell C)) → AllByRecursion (Good K (length ws)) cs → seen (laid (shown K ws cs)) ≡ lookups.visible K cs
   seen-shown kind [] good = refl
   seen-shown kind (c ∷ cs) good =
       many-append _ (entries (shows K ws c.face)) (laid (shown K ws cs))
