@@ -1,5 +1,5 @@
 -- A gap that is found and opened.
-use Rattle.std.proofs.Common.{◌≡◌, ℕ, ◌+◌, ◌-◌, ◌<◌, ◌≤◌, Bool, true, false, cond, ltb, ◌≢◌, ◌⊎◌, List, [], ◌∷◌, ◌++◌, length, get_or, Some, None, Option, sym, refl, ap, ◌∙◌, subst, inl, inr, append_assoc, arith}
+use Rattle.std.proofs.Common.{◌≡◌, ℕ, ◌+◌, ◌<◌, ◌≤◌, true, false, ltb, ◌≢◌, List, [], ◌∷◌, ◌++◌, length, get_or, Some, None, Option, sym, refl, ap, ◌∙◌, subst, inl, inr, append_assoc, arith}
 use Rattle.std.proofs.lemmas.Bool.{cases_Bool}
 use Rattle.std.proofs.lemmas.Bool.Decides.{nat_tests}
 use Rattle.std.specs.List.{AllByRecursion}
@@ -14,8 +14,8 @@ use Rattle.table.specs.Lookups.{shown, visible, SoughtAt, Sought}
 use Rattle.table.proofs.Paths.{last-append, seg-back, holds_unique}
 use Rattle.table.proofs.Walks.{visible_more, shown-all}
 use Rattle.block_store.specs.declared.gap.Gap.{Gap}
-use Rattle.block_store.specs.Lists.{front_of, blocks_of, Good, Shape, Changed}
-use Rattle.block_store.specs.Cuts.{one_if, CutBlock, pieces}
+use Rattle.block_store.specs.Lists.{blocks_of, Good, Shape, Changed}
+use Rattle.block_store.specs.Cuts.{one_if, CutBlock}
 use Rattle.block_store.specs.Gaps.{inside, gap_needs, EndsShown, Gapped, left_of, GapIs, Openable, Opened}
 use Rattle.block_store.proofs.Shapes as S
 use Rattle.block_store.proofs.Insides.{inside-zero, inside_past, inside-at, inside-beyond}

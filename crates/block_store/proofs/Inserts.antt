@@ -1,10 +1,9 @@
 -- A new block, put into a gap that is open.
-use Rattle.std.proofs.Common.{◌≡◌, ℕ, ◌+◌, ◌^◌, ◌<◌, ◌≤◌, false, ◌&&◌, ◌||◌, ◌≢◌, List, [], ◌∷◌, ◌++◌, length, get_or, set, Some, None, Option, sym, refl, ap, ◌∙◌, subst, ap₂, arith, length-append, length-set}
+use Rattle.std.proofs.Common.{◌≡◌, ℕ, ◌+◌, ◌<◌, ◌≤◌, false, ◌&&◌, ◌||◌, List, ◌∷◌, ◌++◌, length, set, None, Option, sym, refl, ap, ◌∙◌, subst, ap₂, arith, length-append, length-set}
 use Rattle.std.proofs.lemmas.List.{get_or-set_same, get_or-set_other}
 use Rattle.std.specs.Option.{option_map}
 use Rattle.std.specs.List.{AllByRecursion}
 use Rattle.content.specs.declared.content.Content.{Ghosts}
-use Rattle.content.specs.Lawful.{Lawful}
 use Rattle.source.specs.declared.id.Id.{Id}
 use Rattle.law.specs.Faces.{bit}
 use Rattle.law.specs.Joins.{starts_here, ends_here}
@@ -13,17 +12,16 @@ use Rattle.registry.specs.Links.{plain_id, link_in}
 use Rattle.table.specs.declared.block.Block.{Block}
 use Rattle.table.specs.declared.gap.LeftEdge.{LeftEdge}
 use Rattle.table.specs.declared.gap.RightEdge.{RightEdge}
-use Rattle.table.specs.Cells.{Face, Cell, cell, front, last, Path, Apart, cells, Stands}
-use Rattle.table.specs.Gaps.{Numbered, last_id, last_links, first_id, first_links, Gap, LeftIs, RightIs}
+use Rattle.table.specs.Cells.{Cell, cell, front, last, Path, cells, Stands}
+use Rattle.table.specs.Gaps.{Numbered, Gap, LeftIs, RightIs}
 use Rattle.table.specs.Puts.{Within, Spliceable, Put}
 use Rattle.table.proofs.Paths.{seg-back, front-within}
 use Rattle.table.proofs.Computed.{cells_of}
 use Rattle.table.proofs.Afters.{within_all}
-use Rattle.block_store.specs.declared.branch.Outcome.{Outcome}
 use Rattle.block_store.specs.declared.gap.Gap as found
 use Rattle.block_store.specs.Lists.{front_of, blocks_of, Good, Shape, Changed}
-use Rattle.block_store.specs.Gaps.{gap_needs, left_of, Opened}
-use Rattle.block_store.specs.Inserts.{new_face, Joins, Puttable, NewBlock, insert_needs, Insertable, InsertDone}
+use Rattle.block_store.specs.Gaps.{left_of, Opened}
+use Rattle.block_store.specs.Inserts.{new_face, Joins, Puttable, NewBlock, Insertable, InsertDone}
 use Rattle.block_store.proofs.Shapes as S
 
 module _ {C : Type 0} where

@@ -1,24 +1,23 @@
 -- A removal, once the list is cut after its last unit and before its first.
-use Rattle.std.proofs.Common.{◌≡◌, ℕ, ◌+◌, ◌<◌, ◌≤◌, Bool, true, false, cond, ◌≢◌, List, [], ◌∷◌, ◌++◌, map, length, Option, sym, refl, ap, ◌∙◌, subst, ap₂, inl, inr, arith, length-append}
+use Rattle.std.proofs.Common.{◌≡◌, ℕ, ◌+◌, ◌<◌, ◌≤◌, Bool, true, false, cond, ◌≢◌, List, [], ◌∷◌, ◌++◌, map, length, Option, sym, refl, ap, ◌∙◌, subst, inl, inr, arith, length-append}
 use lib.ListN.{length-map}
 use Rattle.std.proofs.lemmas.Bool.{cases_Bool}
 use Rattle.std.specs.List.{AllByRecursion}
 use Rattle.content.specs.declared.content.Content.{Ghosts}
 use Rattle.content.specs.Lawful.{Lawful}
-use Rattle.marking.specs.Strikes.{struck_cell, union, Strikable, Struck}
+use Rattle.marking.specs.Strikes.{struck_cell, Strikable, Struck}
 use Rattle.table.specs.declared.block.Block.{Block}
 use Rattle.table.specs.declared.gap.LeftEdge.{LeftEdge}
-use Rattle.table.specs.Cells.{Face, Cell, cell, front, cells, Stands}
+use Rattle.table.specs.Cells.{Face, Cell, cell, front}
 use Rattle.table.specs.Cuts.{left_piece, right_piece}
 use Rattle.table.specs.Gaps as table
 use Rattle.table.specs.Lookups.{shown, visible}
 use Rattle.table.proofs.Paths.{all_front, all_back}
-use Rattle.block_store.specs.declared.branch.Outcome.{Outcome}
 use Rattle.block_store.specs.declared.gap.Gap.{Gap}
 use Rattle.block_store.specs.Lists.{front_of, blocks_of, Good, Shape, Changed}
 use Rattle.block_store.specs.Cuts.{one_if, CutBlock, pieces}
 use Rattle.block_store.specs.Gaps.{inside, gap_needs, Gapped, left_of, GapIs, Openable, Opened}
-use Rattle.block_store.specs.Removes.{remove_needs, Removable, RemoveDone}
+use Rattle.block_store.specs.Removes.{Removable, RemoveDone}
 use Rattle.block_store.proofs.Shapes as S
 use Rattle.block_store.proofs.Insides.{inside-zero, inside_past, inside-cut, parted}
 

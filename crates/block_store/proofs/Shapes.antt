@@ -6,12 +6,12 @@ use Rattle.std.specs.List.{AllByRecursion}
 use Rattle.content.specs.declared.content.Content.{Ghosts}
 use Rattle.content.specs.Lawful.{Lawful}
 use Rattle.table.specs.declared.block.Block.{Block}
-use Rattle.table.specs.Cells.{Face, Cell, cell, Apart, cells, Stands}
+use Rattle.table.specs.Cells.{Cell, cell, Apart, cells, Stands}
 use Rattle.table.specs.Cuts.{left_piece, right_piece, Cuttable, Cut}
 use Rattle.table.specs.Lookups.{Lacks}
 use Rattle.source.specs.declared.id.Id.{Id}
 use Rattle.table.proofs.Paths.{all_front, all_back}
-use Rattle.table.proofs.Computed.{cells_of, stands_of}
+use Rattle.table.proofs.Computed.{cells_of}
 use Rattle.block_store.specs.Lists.{front_of, blocks_of, Good, total, Shape, Changed}
 use Rattle.block_store.specs.Cuts.{CutBlock, pieces}
 use Rattle.block_store.specs.Locates.{Nowhere}

@@ -9,7 +9,7 @@ use Rattle.law.specs.Joins.{starts_here, ends_here}
 use Rattle.registry.specs.declared.links.Links.{Links}
 use Rattle.registry.specs.Links.{plain_id, link_in}
 use Rattle.table.specs.declared.block.Block.{Block}
-use Rattle.table.specs.Cells.{Face, Cell, cell, front, last, Apart, cells, Stands, Kept}
+use Rattle.table.specs.Cells.{Face, Cell, cell, last, Apart, cells, Stands, Kept}
 use Rattle.table.specs.Gaps.{Numbered, last_id, last_links, first_id, first_links}
 use Rattle.table.specs.Lookups.{visible}
 use Rattle.block_store.specs.declared.branch.Outcome.{Outcome}

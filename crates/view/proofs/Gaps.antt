@@ -1,5 +1,5 @@
 -- A gap of a list, opened between two blocks, and the law.
-use Rattle.std.proofs.Common.{◌≡◌, ℕ, zero, suc, ◌+◌, ◌<◌, ◌≤◌, Bool, true, false, ◌⊎◌, List, [], ◌∷◌, ◌++◌, length, sym, refl, ap, ◌∙◌, subst, ap₂, inl, inr, append_assoc, arith, length-append}
+use Rattle.std.proofs.Common.{◌≡◌, ℕ, suc, ◌+◌, ◌<◌, Bool, true, false, List, [], ◌∷◌, ◌++◌, length, sym, refl, ap, ◌∙◌, subst, ap₂, inl, inr, append_assoc, arith, length-append}
 use Rattle.std.proofs.lemmas.List.{append-nil}
 use Rattle.std.proofs.lemmas.Bool.{cases_Bool}
 use Rattle.std.specs.List.{AllByRecursion}
@@ -10,15 +10,13 @@ use Rattle.law.specs.Plain.{Entry, Plain, visible, seen, gap, entries_of, put}
 use Rattle.law.specs.Faces as law
 use Rattle.law.specs.Faces.{Law, laid, entries}
 use Rattle.law.proofs.Basics.{many-append}
-use Rattle.law.proofs.Laid.{laid-append}
 use Rattle.law.proofs.Laws.{laws}
-use Rattle.table.specs.Cells.{Face, Cell, cell}
+use Rattle.table.specs.Cells.{Face, Cell}
 use Rattle.table.specs.Lookups as lookups
 use Rattle.block_store.specs.Lists.{Good}
-use Rattle.block_store.specs.Cuts.{pieces}
 use Rattle.block_store.specs.Gaps.{inside, EndsShown, Gapped}
 use Rattle.view.specs.View.{shows, shown}
-use Rattle.view.proofs.Views.{shown-append, seen-shown, put-as-is}
+use Rattle.view.proofs.Views.{seen-shown, put-as-is}
 use Rattle.view.proofs.Cuts.{cut-law}
 
 -- Entries that end in a visible one.

@@ -1,11 +1,10 @@
 -- A new block, and the law.
-use Rattle.std.proofs.Common.{◌≡◌, ℕ, ◌+◌, ◌-◌, ◌<◌, ◌≤◌, Bool, false, ◌&&◌, ◌||◌, ◌≢◌, List, [], ◌∷◌, ◌++◌, length, Some, None, Option, sym, refl, ap, ◌∙◌, subst, ap₂, arith}
+use Rattle.std.proofs.Common.{◌≡◌, ℕ, ◌+◌, ◌-◌, ◌<◌, ◌≤◌, false, ◌&&◌, ◌||◌, List, [], ◌∷◌, ◌++◌, length, Some, Option, sym, refl, ap, ◌∙◌, subst, ap₂, arith}
 use Rattle.std.specs.Option.{option_map}
 use Rattle.std.specs.List.{AllByRecursion}
 use Rattle.content.specs.declared.content.Content.{Ghosts}
 use Rattle.content.specs.Lawful.{Lawful}
 use Rattle.source.specs.declared.id.Id.{Id}
-use Rattle.law.specs.Plain as plain
 use Rattle.law.specs.Plain.{Plain, gap, put, after}
 use Rattle.law.specs.Plain.Deed.{Inserted}
 use Rattle.law.specs.Faces as law
@@ -27,7 +26,7 @@ use Rattle.block_store.specs.Lists.{blocks_of, Good}
 use Rattle.block_store.specs.Gaps.{gap_needs}
 use Rattle.block_store.specs.Inserts.{new_face, Joins, InsertDone}
 use Rattle.block_store.proofs.Gaps.{gapped-good}
-use Rattle.view.specs.View.{shows, shown, view}
+use Rattle.view.specs.View.{shown, view}
 use Rattle.view.proofs.Views.{view-at, shown-append, law-changed}
 use Rattle.view.proofs.Gaps.{gap_is, gapped-law}
 

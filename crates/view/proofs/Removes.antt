@@ -1,5 +1,5 @@
 -- A removal, and the law.
-use Rattle.std.proofs.Common.{◌≡◌, ℕ, ◌+◌, Bool, true, false, cond, not, ◌&&◌, ◌||◌, ◌≢◌, List, [], ◌∷◌, ◌++◌, map, length, Option, sym, refl, ap, ◌∙◌, subst, ap₂, inl}
+use Rattle.std.proofs.Common.{◌≡◌, ℕ, Bool, true, false, cond, not, ◌&&◌, ◌||◌, List, [], ◌∷◌, ◌++◌, map, length, Option, sym, refl, ap, ◌∙◌, ap₂, inl}
 use lib.Bits.{bit_or}
 use Rattle.std.specs.List.{AllByRecursion}
 use Rattle.content.specs.declared.content.Content.{Ghosts}
@@ -12,15 +12,15 @@ use Rattle.law.specs.Changes as changes
 use Rattle.law.specs.Changes.{hides_any}
 use Rattle.law.proofs.Basics.{put_same, put_other}
 use Rattle.law.proofs.Laws.{laws}
-use Rattle.marking.specs.Strikes.{struck, struck_cell, union}
+use Rattle.marking.specs.Strikes.{struck_cell, union}
 use Rattle.table.specs.declared.block.Block.{Block}
-use Rattle.table.specs.Cells.{Face, Cell}
+use Rattle.table.specs.Cells.{Cell}
 use Rattle.table.proofs.Paths.{all_front, all_back}
 use Rattle.block_store.specs.declared.branch.Outcome.{Outcome}
 use Rattle.block_store.specs.Lists.{blocks_of, Good}
 use Rattle.block_store.specs.Removes.{RemoveDone}
 use Rattle.block_store.proofs.Gaps.{gapped-good}
-use Rattle.view.specs.View.{shows, shown, view}
+use Rattle.view.specs.View.{shown, view}
 use Rattle.view.proofs.Views.{view-at, shown-append, seen-shown, law-changed}
 use Rattle.view.proofs.Gaps.{gapped-law}
 

@@ -1,4 +1,4 @@
-use Rattle.std.proofs.Common.{◌≡◌, ◌+◌, ◌≤◌, length, arith}
+use Rattle.std.proofs.Common.{arith}
 use Rattle.content.specs.Lawful.{Lawful}
 use Rattle.block_store.proofs.Removes as R
 use Rattle.block_store.proofs.branch.remove_at.Given as given

@@ -1,4 +1,4 @@
-use Rattle.std.proofs.Common.{◌≡◌, ◌<◌, length, sym, refl, ap, ◌∙◌, arith, rules}
+use Rattle.std.proofs.Common.{◌≡◌, ◌<◌, length, ap, ◌∙◌, arith}
 use lib.Count.{ones}
 use Rattle.table.specs.declared.block.Block.{Block}
 use Rattle.block_store.specs.Lists.{front_of}

@@ -1,5 +1,4 @@
-use Rattle.std.proofs.Common.{◌≡◌, ℕ, ◌<◌, ◌≤◌, ◌⊎◌, length, sym, ap, ◌∙◌, subst, inl, inr, arith, rules, below_more}
-use Rattle.table.specs.Lookups.{Lacks}
+use Rattle.std.proofs.Common.{arith, below_more}
 use Rattle.block_store.proofs.Shapes.{nowhere-past}
 use Rattle.block_store.proofs.cut.locate.Goals as goal
 
