@@ -3,10 +3,10 @@
 
 usage: python3 tools/respell.py [FOLDER]
 
-Run once at the top of a checkout, after the kit's port.py. Words go to snake case, facts and types to upper camel case;
-a dash stays only where it joins the names of two definitions, as in `length-uleb`. Names from Rust code, names that Rattle
-makes (goals and their facts), strings, file names and prose stay. It stops, with nothing written, where two names would fall
-together.
+Run at the top of a checkout, after the kit's port.py. Words go to snake case, facts and types to upper camel case; a dash
+stays only where it joins the names of two definitions, as in `length-uleb`. Names from Rust code, names that Rattle makes
+(goals and their facts), strings, file names and prose stay. It stops, with nothing written, where two names would fall
+together; run again, it changes nothing.
 """
 import os
 import re
@@ -16,6 +16,8 @@ ROOT = os.path.join(sys.argv[1] if len(sys.argv) > 1 else ".", "crates")
 NAME = r"[^\s(){}\[\].,;:\"«»⌜⌝|=`]+"
 SIGNATURE = re.compile(r"^(abbrev |unfoldable )?(pub )?(" + NAME + r") : (.*)$")
 MEMBER = re.compile(r"^  (?:pub )?(" + NAME + r") : ")
+# In a module with parameters, or below a `where`.
+INNER = re.compile(r"^ +(?:abbrev |unfoldable )?(?:pub )?(" + NAME + r") : ")
 TYPE = re.compile(r"^(?:pub )?(data|record) (" + NAME + r")")
 IMPORT = re.compile(r"^(?:ghost )?use (\S+?)(?: as (" + NAME + r"))?;?$")
 # Names that another definition of theirs would fall together with, or that say more in other words.
@@ -23,13 +25,14 @@ BY_HAND = {
     "put-each₂": "put_each_two",
     "getD-through": "get_or_through",
     # the lemma of a definition has `_lem` after its name
-    "goes_on": "goes_on_lem",
     "write-in": "write_in_lem",
     "first-word": "first_word_lem",
     # the library has `bit_or` and `bit_and`: these are lemmas on `bit` of them
     "bit-or": "bit-or",
     "bit-and": "bit-and",
 }
+# The same, where the definition still has its older name.
+BESIDE = {"goes_on": ("goesOn", "goes_on_lem")}
 # Functions and fields of Rust code whose names a definition now shares: in clauses and proofs only the definition is meant.
 SHARED = "max_len right_origin is_hex is_hex_digit is_digit wanted_by is_open ends_here starts_here".split()
 # Names of the library that lemmas of this repository are joined to by a dash.
@@ -50,7 +53,7 @@ def read(path):
 
 
 def declared(text):
-    """The names that a file declares, each with its kind: word, lemma, type, member."""
+    """The names that a file declares, each with its kind: word, lemma, type, member of a record, inner."""
     inside = None
     for line in text.split("\n"):
         kind = TYPE.match(line)
@@ -67,6 +70,10 @@ def declared(text):
             inside = None
             if not signature.group(4).startswith(("goal.", "given.")):
                 yield signature.group(3), "word" if signature.group(1) else "lemma"
+            continue
+        inner = INNER.match(line)
+        if inner and not inside:
+            yield inner.group(1), "inner"
             continue
         if line and not line.startswith(" "):
             inside = None
@@ -85,10 +92,12 @@ def respelled(name, kind, words):
     if name[0].isupper():
         return "".join(p[:1].upper() + p[1:] for p in parts)
     parts = [snake(p) for p in parts]
+    joins = [kind in ("lemma", "inner") and a in words and b in words for a, b in zip(parts, parts[1:])]
+    if kind == "inner" and not all(joins):
+        return "_".join(parts)
     joined = parts[0]
-    for i in range(1, len(parts)):
-        both = kind == "lemma" and parts[i - 1] in words and parts[i] in words
-        joined += ("-" if both else "_") + parts[i]
+    for part, join in zip(parts[1:], joins):
+        joined += ("-" if join else "_") + part
     return joined
 
 
@@ -141,10 +150,12 @@ def main():
     words = {snake(n) for n, k in kinds.items() if k & {"word", "type"} and "-" not in n} | set(LIBRARY)
     names, members = {}, {}
     for name, kind in sorted(kinds.items()):
-        for k in ("member", "lemma", "word", "type"):
+        for k in ("member", "lemma", "word", "type", "inner"):
             if k in kind:
                 new = respelled(name, k, words)
                 break
+        if name in BESIDE and BESIDE[name][0] in kinds:
+            new = BESIDE[name][1]
         if new == name:
             continue
         names[name] = new

@@ -15,7 +15,7 @@ use Rattle.table.specs.declared.gap.RightEdge.{RightEdge}
 use Rattle.table.specs.Cells.{Cell, cell, front, last, Path, cells, Stands}
 use Rattle.table.specs.Gaps.{Numbered, Gap, LeftIs, RightIs}
 use Rattle.table.specs.Puts.{Within, Spliceable, Put}
-use Rattle.table.proofs.Paths.{seg-back, front-within}
+use Rattle.table.proofs.Paths.{seg_back, front-within}
 use Rattle.table.proofs.Computed.{cells_of}
 use Rattle.table.proofs.Afters.{within_all}
 use Rattle.block_store.specs.declared.gap.Gap as found
@@ -29,17 +29,17 @@ module _ {C : Type 0} where
     abbrev pub gap_of : Gap K t start left
     gap_of = record { list = l; pre = w.pre; post = w.post; stands = w.stands; parts = w.parts; ends = w.ends; numbered = w.numbered }
 
-    abbrev pub splice-of : Spliceable t l start left j
-    splice-of = record { pre = w.pre; post = w.post; stands = w.stands; parts = w.parts; ends = w.ends; room = w.room; free = w.free }
+    abbrev pub splice_of : Spliceable t l start left j
+    splice_of = record { pre = w.pre; post = w.post; stands = w.stands; parts = w.parts; ends = w.ends; room = w.room; free = w.free }
 
-    post-path : Path t l (last None w.pre) w.post
-    post-path = seg-back t l None w.pre w.post None (subst (λ (cs : List (Cell C)). Path t l None cs) w.parts w.stands.path)
+    post_path : Path t l (last None w.pre) w.post
+    post_path = seg_back t l None w.pre w.post None (subst (λ (cs : List (Cell C)). Path t l None cs) w.parts w.stands.path)
 
-    pub right-within : (right : Option ℕ) → right ≡ front w.post → Within t right
-    right-within right e = within_all t t right refl (λ m q. front-within t l (last None w.pre) w.post m post-path (sym e ∙ q))
+    pub right_within : (right : Option ℕ) → right ≡ front w.post → Within t right
+    right_within right e = within_all t t right refl (λ m q. front-within t l (last None w.pre) w.post m post_path (sym e ∙ q))
 
-    pub right-cells : (right : Option ℕ) → right ≡ front w.post → cells t right ≡ w.post
-    right-cells right e = cells_of t l (last None w.pre) right w.post post-path (sym e)
+    pub right_cells : (right : Option ℕ) → right ≡ front w.post → cells t right ≡ w.post
+    right_cells right e = cells_of t l (last None w.pre) right w.post post_path (sym e)
 
     module _ (links : Links) (id : Id) (x : C) (r : ℕ) {a : LeftEdge} {b : RightEdge} (la : LeftIs K w.pre w.post a) (rb : RightIs w.post b)
         (joined : (n : ℕ) → bit n r ≡ ((bit n a.links || starts_here (link_in links n) l (option_map plain_id a.last)) && (bit n b.links || ends_here (link_in links n) l (option_map plain_id b.first)))) where
@@ -49,9 +49,9 @@ module _ {C : Type 0} where
           ∙ ap₂ ◌&&◌ (ap₂ (λ s o. bit n s || starts_here (link_in links n) l (option_map plain_id o)) la.set la.id)
           (ap₂ (λ s o. bit n s || ends_here (link_in links n) l (option_map plain_id o)) rb.set rb.id)
 
-      pub new-block : {u : List (Block C)} {begin : Option ℕ} → Put t l start left j (record { id = id; origin = a.last; right_origin = b.first; removed = false; links = r; content = x }) splice-of u begin
+      pub new_block : {u : List (Block C)} {begin : Option ℕ} → Put t l start left j (record { id = id; origin = a.last; right_origin = b.first; removed = false; links = r; content = x }) splice_of u begin
           → NewBlock K links t u l begin j id x w.pre w.post r
-      new-block {u} {begin} p = record {
+      new_block {u} {begin} p = record {
         joins = joins;
         stands = p.stands;
         now_cells = p.now_cells ∙ ap₂ (λ (o q : Option Id). w.pre ++ cell j (record { id = id; origin = o; right_origin = q; removed = false; links = r; content = x }) ∷ w.post) la.id rb.id;
@@ -61,8 +61,8 @@ module _ {C : Type 0} where
   -- Once the gap is open, in the first free record.
   module _ {K : Ghosts C} {t : List (Block C)} {fronts : List (Option ℕ)} {used limit l i : ℕ} {id : Id} {x : C} (w : Insertable K t fronts used limit l i id x)
       {mid : List (Block C)} {g : found.Gap} {j : ℕ} (o : Opened K t mid fronts used l i g j) (shape : Shape K w.words mid j fronts) (room : j < limit) (long : length mid ≡ length t) where
-    abbrev pub put-here : (left : Option ℕ) → left ≡ left_of g.place → Puttable K mid l (front_of fronts l) left j
-    put-here left e = record {
+    abbrev pub put_here : (left : Option ℕ) → left ≡ left_of g.place → Puttable K mid l (front_of fronts l) left j
+    put_here left e = record {
       pre = o.pre;
       post = o.post;
       stands = shape.stands l;
@@ -74,8 +74,8 @@ module _ {C : Type 0} where
     }
 
     module _ {links : Links} {u : List (Block C)} {begin : Option ℕ} {r : ℕ} (b : NewBlock K links mid u l begin j id x o.pre o.post r) where
-      put-changed : Changed mid u fronts (set fronts l begin) l (o.pre ++ cell j (new_face K o.pre o.post id r x) ∷ o.post)
-      put-changed = record {
+      put_changed : Changed mid u fronts (set fronts l begin) l (o.pre ++ cell j (new_face K o.pre o.post id r x) ∷ o.post)
+      put_changed = record {
         stands = subst (λ q. Stands u l q) (sym (get_or-set_same fronts l begin None w.known)) b.stands;
         is = ap (cells u) (get_or-set_same fronts l begin None w.known) ∙ b.now_cells;
         others = λ m ne. b.others m (front_of fronts m) ne (shape.stands m) (S.free shape m);
@@ -89,16 +89,16 @@ module _ {C : Type 0} where
         post = o.post;
         gapped = o.gapped;
         joins = b.joins;
-        changed = subst (λ n. Changed t u fronts (set fronts l begin) l (o.pre ++ cell n (new_face K o.pre o.post id r x) ∷ o.post)) o.records (S.then o.changed put-changed);
+        changed = subst (λ n. Changed t u fronts (set fronts l begin) l (o.pre ++ cell n (new_face K o.pre o.post id r x) ∷ o.post)) o.records (S.then o.changed put_changed);
         records = (let e = o.records in omega arith);
         enough = omega arith;
       }
 
-      pub inserted-shape : (n : ℕ) → Shape K n mid j fronts → K.reach x ≤ n → length u ≡ length t → Shape K n u (j + 1) (set fronts l begin)
-      inserted-shape n s fits same =
+      pub inserted_shape : (n : ℕ) → Shape K n mid j fronts → K.reach x ≤ n → length u ≡ length t → Shape K n u (j + 1) (set fronts l begin)
+      inserted_shape n s fits same =
           let low : AllByRecursion (λ c. c.at < j) (o.pre ++ o.post) = subst (λ (cs : List (Cell C)). AllByRecursion (λ c. c.at < j) cs) o.changed.is (s.low l) in
           let good : AllByRecursion (Good K n) (o.pre ++ o.post) = subst (λ (cs : List (Cell C)). AllByRecursion (Good K n) cs) o.changed.is (s.good l) in
-          S.shape-changed put-changed K n j (j + 1) s w.known (omega arith) (let f = w.fits in omega arith)
+          S.shape_changed put_changed K n j (j + 1) s w.known (omega arith) (let f = w.fits in omega arith)
           (S.all_put (λ c. c.at < j + 1) o.pre _ o.post (S.lower j (j + 1) _ (omega arith) low) (omega arith))
           (S.all_put (Good K n) o.pre _ o.post good (record { numbered = record { some = w.some; ids = w.ids }; fits = fits }))
           (let e : length (blocks_of mid fronts l) ≡ length (o.pre ++ o.post) = ap length o.changed.is in

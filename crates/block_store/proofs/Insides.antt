@@ -7,7 +7,7 @@ use Rattle.content.specs.Lawful.{Lawful}
 use Rattle.table.specs.Cells.{Face, Cell, cell}
 use Rattle.table.specs.Cuts.{left_piece, right_piece}
 use Rattle.table.specs.Lookups.{shown, visible}
-use Rattle.table.proofs.Walks.{shown-all}
+use Rattle.table.proofs.Walks.{shown_all}
 use Rattle.block_store.specs.Gaps.{inside}
 
 past : (i a : ℕ) (r : Bool) → a ≤ i → ((ltb 0 i && ltb i a) || r) ≡ r
@@ -21,9 +21,9 @@ two : (i a b : ℕ) (r : Bool) → 0 < a → i ≢ a → ((ltb 0 i && ltb i a) |
 two i a b r low ne = grind (arith, nat_tests)
 
 module _ {C : Type 0} (K : Ghosts C) where
-  pub inside-zero : (cs : List (Cell C)) → inside K 0 cs ≡ false
-  inside-zero [] = refl
-  inside-zero (c ∷ cs) = ap (λ m. inside K m cs) (let e : 0 - shown K c.face ≡ 0 = omega arith in e) ∙ inside-zero cs
+  pub inside_zero : (cs : List (Cell C)) → inside K 0 cs ≡ false
+  inside_zero [] = refl
+  inside_zero (c ∷ cs) = ap (λ m. inside K m cs) (let e : 0 - shown K c.face ≡ 0 = omega arith in e) ∙ inside_zero cs
 
   pub inside_past : (pre post : List (Cell C)) (n : ℕ) → inside K (visible K pre + n) (pre ++ post) ≡ inside K n post
   inside_past [] post n = ap (λ m. inside K m post) (let e : 0 + n ≡ n = omega arith in e)
@@ -33,27 +33,27 @@ module _ {C : Type 0} (K : Ghosts C) where
       ∙ inside_past pre post n
 
   -- After o units of a visible block.
-  pub inside-at : (i o : ℕ) (f : Face C) (post : List (Cell C)) → f.removed ≡ false → K.counts f.content ≡ true → 0 < o → o ≤ K.size f.content
+  pub inside_at : (i o : ℕ) (f : Face C) (post : List (Cell C)) → f.removed ≡ false → K.counts f.content ≡ true → 0 < o → o ≤ K.size f.content
       → inside K o (cell i f ∷ post) ≡ ltb o (K.size f.content)
-  inside-at i o f post r c low high =
-      let all : shown K f ≡ K.size f.content = shown-all K f r c in
+  inside_at i o f post r c low high =
+      let all : shown K f ≡ K.size f.content = shown_all K f r c in
       elim (cases_lt o (K.size f.content)) [
         | inl lt ↦ within o (shown K f) _ low (omega arith) ∙ (let e : true ≡ ltb o (K.size f.content) = grind (arith, nat_tests) in e)
-        | inr ge ↦ past o (shown K f) _ (omega arith) ∙ ap (λ m. inside K m post) (let e : o - shown K f ≡ 0 = omega arith in e) ∙ inside-zero post ∙ (let e : false ≡ ltb o (K.size f.content) = grind (arith, nat_tests) in e)
+        | inr ge ↦ past o (shown K f) _ (omega arith) ∙ ap (λ m. inside K m post) (let e : o - shown K f ≡ 0 = omega arith in e) ∙ inside_zero post ∙ (let e : false ≡ ltb o (K.size f.content) = grind (arith, nat_tests) in e)
       ]
 
-  pub inside-beyond : (cs : List (Cell C)) (i : ℕ) → visible K cs ≤ i → inside K i cs ≡ false
-  inside-beyond [] i le = refl
-  inside-beyond (c ∷ cs) i le = past i (shown K c.face) _ (omega arith) ∙ inside-beyond cs (i - shown K c.face) (omega arith)
+  pub inside_beyond : (cs : List (Cell C)) (i : ℕ) → visible K cs ≤ i → inside K i cs ≡ false
+  inside_beyond [] i le = refl
+  inside_beyond (c ∷ cs) i le = past i (shown K c.face) _ (omega arith) ∙ inside_beyond cs (i - shown K c.face) (omega arith)
 
   -- A cut at another gap leaves it where it is.
   pub inside-cut : Lawful K → (pre : List (Cell C)) (p j k : ℕ) (f : Face C) (post : List (Cell C)) (i : ℕ) → 0 < k → k < K.size f.content → i ≢ visible K pre + k
       → inside K i (pre ++ cell p (left_piece K k f) ∷ cell j (right_piece K k f) ∷ post) ≡ inside K i (pre ++ cell p f ∷ post)
   inside-cut laws (c ∷ pre) p j k f post i low high ne =
-      ap (λ r. (ltb 0 i && ltb i (shown K c.face)) || r) (inside-cut laws pre p j k f post (i - shown K c.face) low high (λ e. ne-less e))
+      ap (λ r. (ltb 0 i && ltb i (shown K c.face)) || r) (inside-cut laws pre p j k f post (i - shown K c.face) low high (λ e. ne_less e))
     where
-      ne-less : i - shown K c.face ≡ visible K pre + k → ⊥
-      ne-less e = elim (cases_lt i (shown K c.face)) [ inl lt ↦ omega arith | inr ge ↦ ne (omega arith) ]
+      ne_less : i - shown K c.face ≡ visible K pre + k → ⊥
+      ne_less e = elim (cases_lt i (shown K c.face)) [ inl lt ↦ omega arith | inr ge ↦ ne (omega arith) ]
   inside-cut laws [] p j k f post i low high ne =
       let h = laws.halves k f.content low high in
       let ls : shown K (left_piece K k f) ≡ cond f.removed 0 (cond (K.counts f.content) k 0) = rw (h.left_counts, h.front) in

@@ -19,7 +19,7 @@ use Rattle.block_store.specs.Cuts.{one_if, CutBlock, pieces}
 use Rattle.block_store.specs.Gaps.{inside, gap_needs, Gapped, left_of, GapIs, Openable, Opened}
 use Rattle.block_store.specs.Removes.{Removable, RemoveDone}
 use Rattle.block_store.proofs.Shapes as S
-use Rattle.block_store.proofs.Insides.{inside-zero, inside_past, inside-cut, parted}
+use Rattle.block_store.proofs.Insides.{inside_zero, inside_past, inside-cut, parted}
 
 halved : (r c : Bool) (a b n m : ℕ) → a + b ≡ n → cond r 0 (cond c a 0) + (cond r 0 (cond c b 0) + m) ≡ cond r 0 (cond c n 0) + m
 halved true c a b n m e = omega arith
@@ -42,15 +42,15 @@ module _ {C : Type 0} (K : Ghosts C) where
   pub visible-pieces : Lawful K → {cs : List (Cell C)} (j : ℕ) (c : CutBlock K cs) → visible K (pieces j c) ≡ visible K cs
   visible-pieces laws {cs} j c = visible-cut laws c.pre c.place j c.offset c.face c.post c.low c.high ∙ ap (visible K) (sym c.parts)
 
-  pub gapped-visible : Lawful K → {i j : ℕ} {cs pre post : List (Cell C)} → Gapped K i j cs pre post → visible K (pre ++ post) ≡ visible K cs
-  gapped-visible laws {i} {j} {cs} g = elim (cases_Bool (inside K i cs)) [
+  pub gapped_visible : Lawful K → {i j : ℕ} {cs pre post : List (Cell C)} → Gapped K i j cs pre post → visible K (pre ++ post) ≡ visible K cs
+  gapped_visible laws {i} {j} {cs} g = elim (cases_Bool (inside K i cs)) [
     | inl in-it ↦ ap (visible K) (sym (g.cut in-it).1) ∙ visible-pieces laws j (g.cut in-it).0
     | inr out ↦ ap (visible K) (sym (g.whole out))
   ]
 
   -- Another gap lies inside a block just where it did.
-  gapped-inside : Lawful K → {i j : ℕ} {cs pre post : List (Cell C)} → Gapped K i j cs pre post → (m : ℕ) → m ≢ i → inside K m (pre ++ post) ≡ inside K m cs
-  gapped-inside laws {i} {j} {cs} g m ne = elim (cases_Bool (inside K i cs)) [
+  gapped_inside : Lawful K → {i j : ℕ} {cs pre post : List (Cell C)} → Gapped K i j cs pre post → (m : ℕ) → m ≢ i → inside K m (pre ++ post) ≡ inside K m cs
+  gapped_inside laws {i} {j} {cs} g m ne = elim (cases_Bool (inside K i cs)) [
     | inl in-it ↦
         (let c = (g.cut in-it).0 in
         ap (inside K m) (sym (g.cut in-it).1)
@@ -60,20 +60,20 @@ module _ {C : Type 0} (K : Ghosts C) where
   ]
 
   -- And a gap that is open lies inside none.
-  gapped-open : {i j : ℕ} {cs pre post : List (Cell C)} → Gapped K i j cs pre post → inside K i (pre ++ post) ≡ false
-  gapped-open {i} {j} {cs} {pre} {post} g =
-      ap (λ n. inside K n (pre ++ post)) (let e = g.before in let q : i ≡ visible K pre + 0 = omega arith in q) ∙ inside_past K pre post 0 ∙ inside-zero K post
+  gapped_open : {i j : ℕ} {cs pre post : List (Cell C)} → Gapped K i j cs pre post → inside K i (pre ++ post) ≡ false
+  gapped_open {i} {j} {cs} {pre} {post} g =
+      ap (λ n. inside K n (pre ++ post)) (let e = g.before in let q : i ≡ visible K pre + 0 = omega arith in q) ∙ inside_past K pre post 0 ∙ inside_zero K post
 
   module _ (kind : Lawful K) {t : List (Block C)} {fronts : List (Option ℕ)} {used limit l i n : ℕ} (w : Removable K t fronts used limit l i n)
       {mid : List (Block C)} {last : Gap} {j : ℕ} (a : Opened K t mid fronts used l (i + n) last j) (mid-shape : Shape K w.words mid j fronts) where
     ne : i ≢ i + n
     ne e = let some = w.some in omega arith
 
-    mid-needs : gap_needs K i (blocks_of mid fronts l) ≡ gap_needs K i (blocks_of t fronts l)
-    mid-needs = ap one_if (ap (inside K i) a.changed.is ∙ gapped-inside kind a.gapped i ne)
+    mid_needs : gap_needs K i (blocks_of mid fronts l) ≡ gap_needs K i (blocks_of t fronts l)
+    mid_needs = ap one_if (ap (inside K i) a.changed.is ∙ gapped_inside kind a.gapped i ne)
 
-    mid-visible : visible K (blocks_of mid fronts l) ≡ visible K (blocks_of t fronts l)
-    mid-visible = ap (visible K) a.changed.is ∙ gapped-visible kind a.gapped
+    mid_visible : visible K (blocks_of mid fronts l) ≡ visible K (blocks_of t fronts l)
+    mid_visible = ap (visible K) a.changed.is ∙ gapped_visible kind a.gapped
 
     pub second : (first again : Gap) → first.needs ≡ gap_needs K i (blocks_of t fronts l) → last.needs ≡ gap_needs K (i + n) (blocks_of t fronts l) → GapIs K i (blocks_of mid fronts l) again
         → used + (last.needs + first.needs) ≤ limit → length mid ≡ length t → Openable K mid fronts j l i again
@@ -82,20 +82,20 @@ module _ {C : Type 0} (K : Ghosts C) where
       shape = mid-shape;
       known = w.known;
       gap = g;
-      within = (let e = mid-visible in let v = w.within in omega arith);
+      within = (let e = mid_visible in let v = w.within in omega arith);
       room =
-          (let e : again.needs ≡ gap_needs K i (blocks_of t fronts l) = g.needs ∙ mid-needs in
+          (let e : again.needs ≡ gap_needs K i (blocks_of t fronts l) = g.needs ∙ mid_needs in
           let r = a.records in
           let fits = w.fits in
           omega arith);
     }
 
     module _ {both : List (Block C)} {again : Gap} {k : ℕ} (b : Opened K mid both fronts j l i again k) (shape : Shape K w.words both k fronts) where
-      pub in-limit : (first : Gap) → first.needs ≡ gap_needs K i (blocks_of t fronts l) → last.needs ≡ gap_needs K (i + n) (blocks_of t fronts l) → used + (last.needs + first.needs) ≤ limit → k ≤ limit
-      in-limit first f la room = let x = a.records in let y = b.records in let z = mid-needs in omega arith
+      pub in_limit : (first : Gap) → first.needs ≡ gap_needs K i (blocks_of t fronts l) → last.needs ≡ gap_needs K (i + n) (blocks_of t fronts l) → used + (last.needs + first.needs) ≤ limit → k ≤ limit
+      in_limit first f la room = let x = a.records in let y = b.records in let z = mid_needs in omega arith
 
-      abbrev pub edge-gap : (left : Option ℕ) → left ≡ left_of again.place → table.Gap K both (front_of fronts l) left
-      edge-gap left e = record {
+      abbrev pub edge_gap : (left : Option ℕ) → left ≡ left_of again.place → table.Gap K both (front_of fronts l) left
+      edge_gap left e = record {
         list = l;
         pre = b.pre;
         post = b.post;
@@ -105,41 +105,41 @@ module _ {C : Type 0} (K : Ghosts C) where
         numbered = S.all_map (Good K w.words) (λ c. table.Numbered K c.face) _ (λ c good. good.numbered) (shape.good l);
       }
 
-      parts-of : (ms : List (Cell C)) × (ys : List (Cell C)) × (b.post ≡ ms ++ ys) × (visible K ms ≡ n)
-      parts-of =
+      parts_of : (ms : List (Cell C)) × (ys : List (Cell C)) × (b.post ≡ ms ++ ys) × (visible K ms ≡ n)
+      parts_of =
           parted K b.post n
           (sym (inside_past K b.pre b.post n)
           ∙ ap (λ m. inside K m (b.pre ++ b.post)) (let e = b.gapped.before in let q : visible K b.pre + n ≡ i + n = omega arith in q)
-          ∙ gapped-inside kind b.gapped (i + n) (λ e. ne (sym e)) ∙ ap (inside K (i + n)) a.changed.is ∙ gapped-open a.gapped)
-          (let e : visible K (b.pre ++ b.post) ≡ visible K (blocks_of mid fronts l) = gapped-visible kind b.gapped in
-          let f = mid-visible in
+          ∙ gapped_inside kind b.gapped (i + n) (λ e. ne (sym e)) ∙ ap (inside K (i + n)) a.changed.is ∙ gapped_open a.gapped)
+          (let e : visible K (b.pre ++ b.post) ≡ visible K (blocks_of mid fronts l) = gapped_visible kind b.gapped in
+          let f = mid_visible in
           let p = visible-append b.pre b.post in
           let q = b.gapped.before in
           let v = w.within in
           omega arith)
 
       pub ms : List (Cell C)
-      ms = parts-of.0
+      ms = parts_of.0
 
       pub ys : List (Cell C)
-      ys = parts-of.1
+      ys = parts_of.1
 
       post_is : b.post ≡ ms ++ ys
       unfolding ms ys
-      post_is = parts-of.2
+      post_is = parts_of.2
 
-      pub ms-sum : visible K ms ≡ n
+      pub ms_sum : visible K ms ≡ n
       unfolding ms
-      ms-sum = parts-of.3
+      ms_sum = parts_of.3
 
-      pub now-parts : blocks_of both fronts l ≡ b.pre ++ (ms ++ ys)
-      now-parts = b.changed.is ∙ ap (λ (xs : List (Cell C)). b.pre ++ xs) post_is
+      pub now_parts : blocks_of both fronts l ≡ b.pre ++ (ms ++ ys)
+      now_parts = b.changed.is ∙ ap (λ (xs : List (Cell C)). b.pre ++ xs) post_is
 
       pub hand : {e : LeftEdge} → table.LeftIs K b.pre b.post e → front (ms ++ ys) ≡ e.right
       hand le = ap front (sym post_is) ∙ sym le.right
 
-      pub all-filled : AllByRecursion (λ c. 0 < K.size c.face.content) (blocks_of both fronts l)
-      all-filled = S.all_map (Good K w.words) (λ c. 0 < K.size c.face.content) _ (λ c good. good.numbered.some) (shape.good l)
+      pub all_filled : AllByRecursion (λ c. 0 < K.size c.face.content) (blocks_of both fronts l)
+      all_filled = S.all_map (Good K w.words) (λ c. 0 < K.size c.face.content) _ (λ c good. good.numbered.some) (shape.good l)
 
       abbrev pub strikable : (e : LeftEdge) → table.LeftIs K b.pre b.post e → Strikable K both e.right n
       strikable e le = record {
@@ -149,15 +149,15 @@ module _ {C : Type 0} (K : Ghosts C) where
         ms = ms;
         ys = ys;
         stands = shape.stands l;
-        parts = now-parts;
+        parts = now_parts;
         at_hand = hand le;
-        sum = ms-sum;
-        filled = all-filled;
+        sum = ms_sum;
+        filled = all_filled;
       }
 
       module _ {e : LeftEdge} (le : table.LeftIs K b.pre b.post e) {u : List (Block C)} {links : ℕ} (s : Struck K both e.right n (strikable e le) u links) where
-        struck-changed : Changed both u fronts fronts l (b.pre ++ (map (struck_cell K) ms ++ ys))
-        struck-changed = record {
+        struck_changed : Changed both u fronts fronts l (b.pre ++ (map (struck_cell K) ms ++ ys))
+        struck_changed = record {
           stands = s.stands;
           is = s.now_cells;
           others = λ m ne. s.others m (front_of fronts m) ne (shape.stands m);
@@ -177,23 +177,23 @@ module _ {C : Type 0} (K : Ghosts C) where
               subst (λ z. Gapped K i z (a.pre ++ a.post) b.pre (ms ++ ys)) a.records
               (subst (λ (xs : List (Cell C)). Gapped K i j (a.pre ++ a.post) b.pre xs) post_is
               (subst (λ (xs : List (Cell C)). Gapped K i j xs b.pre b.post) a.changed.is b.gapped));
-          sum = ms-sum;
-          changed = S.then (S.then a.changed b.changed) struck-changed;
+          sum = ms_sum;
+          changed = S.then (S.then a.changed b.changed) struck_changed;
           links = s.links;
-          records = (let x = a.records in let y = b.records in let z = mid-needs in omega arith);
+          records = (let x = a.records in let y = b.records in let z = mid_needs in omega arith);
           enough = room;
         }
 
-        pub removed-shape : (m : ℕ) → Shape K m both k fronts → length u ≡ length both → Shape K m u k fronts
-        removed-shape m sh long =
-            let low : AllByRecursion (λ c. c.at < k) (b.pre ++ (ms ++ ys)) = subst (λ (cs : List (Cell C)). AllByRecursion (λ c. c.at < k) cs) now-parts (sh.low l) in
-            let good : AllByRecursion (Good K m) (b.pre ++ (ms ++ ys)) = subst (λ (cs : List (Cell C)). AllByRecursion (Good K m) cs) now-parts (sh.good l) in
+        pub removed_shape : (m : ℕ) → Shape K m both k fronts → length u ≡ length both → Shape K m u k fronts
+        removed_shape m sh long =
+            let low : AllByRecursion (λ c. c.at < k) (b.pre ++ (ms ++ ys)) = subst (λ (cs : List (Cell C)). AllByRecursion (λ c. c.at < k) cs) now_parts (sh.low l) in
+            let good : AllByRecursion (Good K m) (b.pre ++ (ms ++ ys)) = subst (λ (cs : List (Cell C)). AllByRecursion (Good K m) cs) now_parts (sh.good l) in
             let room = sh.room in
-            S.shape-changed struck-changed K m k k sh w.known (omega arith) (omega arith)
+            S.shape_changed struck_changed K m k k sh w.known (omega arith) (omega arith)
             (among (λ c. c.at < k) low (λ c lt. lt))
             (among (Good K m) good (λ c gd. record { numbered = record { some = gd.numbered.some; ids = gd.numbered.ids }; fits = gd.fits }))
             (ap (λ z. z + k) (length-append b.pre (map (struck_cell K) ms ++ ys) ∙ ap (λ z. length b.pre + z) (length-append (map (struck_cell K) ms) ys ∙ ap (λ z. z + length ys) (length-map ms (struck_cell K)) ∙ sym (length-append ms ys))
-            ∙ sym (length-append b.pre (ms ++ ys)) ∙ ap length (sym now-parts)))
+            ∙ sym (length-append b.pre (ms ++ ys)) ∙ ap length (sym now_parts)))
           where
             each : (P : Cell C → Type 0) (xs : List (Cell C)) → AllByRecursion P xs → ((c : Cell C) → P c → P (struck_cell K c)) → AllByRecursion P (map (struck_cell K) xs)
             each P [] h f = tt

@@ -58,9 +58,9 @@ module _ {C : Type 0} where
   no_cells t = cells_of t 0 None None [] tt refl
 
   -- A list whose blocks lie below a record does not have that record.
-  pub low-apart : (n : ℕ) (cs : List (Cell C)) → AllByRecursion (λ c. c.at < n) cs → Apart n cs
-  low-apart n [] a = tt
-  low-apart n (c ∷ cs) a = ((λ e. let lt : c.at < n = a.0 in omega arith), low-apart n cs a.1)
+  pub low_apart : (n : ℕ) (cs : List (Cell C)) → AllByRecursion (λ c. c.at < n) cs → Apart n cs
+  low_apart n [] a = tt
+  low_apart n (c ∷ cs) a = ((λ e. let lt : c.at < n = a.0 in omega arith), low_apart n cs a.1)
 
   pub lower : (m n : ℕ) (cs : List (Cell C)) → m ≤ n → AllByRecursion (λ c. c.at < m) cs → AllByRecursion (λ c. c.at < n) cs
   lower m n cs le a = all_map (λ c. c.at < m) (λ c. c.at < n) cs (λ c lt. omega arith) a
@@ -70,8 +70,8 @@ module _ {C : Type 0} where
   same K n used t fronts l cs s e = record { stands = s.stands l; is = e; others = λ m ne. record { stands = s.stands m; same = refl }; fronts_same = λ m ne. refl; fronts_many = refl }
 
   module _ {t u : List (Block C)} {fronts now-fronts : List (Option ℕ)} {l : ℕ} {cs : List (Cell C)} (w : Changed t u fronts now-fronts l cs) where
-    pub other-blocks : (m : ℕ) → l ≢ m → blocks_of u now-fronts m ≡ blocks_of t fronts m
-    other-blocks m ne = ap (cells u) (w.fronts_same m ne) ∙ (w.others m ne).same
+    pub other_blocks : (m : ℕ) → l ≢ m → blocks_of u now-fronts m ≡ blocks_of t fronts m
+    other_blocks m ne = ap (cells u) (w.fronts_same m ne) ∙ (w.others m ne).same
 
     -- Each list is a list that was, or the changed one.
     each : (P : ℕ → List (Cell C) → Type 0) → P l cs → ((m : ℕ) → P m (blocks_of t fronts m)) → (m : ℕ) → P m (blocks_of u now-fronts m)
@@ -79,7 +79,7 @@ module _ {C : Type 0} where
       where
         step : (l ≡ m) ⊎ (l ≡ m → ⊥) → P m (blocks_of u now-fronts m)
         step (inl e) = subst (λ z. P z (blocks_of u now-fronts z)) e (subst (λ (ds : List (Cell C)). P l ds) (sym w.is) here)
-        step (inr ne) = subst (λ (ds : List (Cell C)). P m ds) (sym (other-blocks m ne)) (other m)
+        step (inr ne) = subst (λ (ds : List (Cell C)). P m ds) (sym (other_blocks m ne)) (other m)
 
     each_stands : (m : ℕ) → Stands u m (front_of now-fronts m)
     each_stands m = step (cases_eq l m)
@@ -88,16 +88,16 @@ module _ {C : Type 0} where
         step (inl e) = subst (λ z. Stands u z (front_of now-fronts z)) e w.stands
         step (inr ne) = subst (λ o. Stands u m o) (sym (w.fronts_same m ne)) (w.others m ne).stands
 
-    pub shape-changed : (K : Ghosts C) (n used now-used : ℕ) → Shape K n t used fronts → l < length fronts → used ≤ now-used → now-used ≤ length u
+    pub shape_changed : (K : Ghosts C) (n used now-used : ℕ) → Shape K n t used fronts → l < length fronts → used ≤ now-used → now-used ≤ length u
         → AllByRecursion (λ c. c.at < now-used) cs → AllByRecursion (Good K n) cs → length cs + used ≡ length (blocks_of t fronts l) + now-used → Shape K n u now-used now-fronts
-    shape-changed K n used now-used s known more room low good long = record {
+    shape_changed K n used now-used s known more room low good long = record {
       stands = each_stands;
       low = each (λ m ds. AllByRecursion (λ c. c.at < now-used) ds) low (λ m. lower used now-used (blocks_of t fronts m) more (s.low m));
       good = each (λ m ds. AllByRecursion (Good K n) ds) good s.good;
       room = room;
       count =
           (let e : total (λ m. length (blocks_of u now-fronts m)) (length fronts) + used ≡ total (λ m. length (blocks_of t fronts m)) (length fronts) + now-used =
-          total_changed (λ m. length (blocks_of t fronts m)) (λ m. length (blocks_of u now-fronts m)) (length fronts) l used now-used known (ap (λ (ds : List (Cell C)). length ds + used) w.is ∙ long) (λ m ne. ap length (other-blocks m ne)) in
+          total_changed (λ m. length (blocks_of t fronts m)) (λ m. length (blocks_of u now-fronts m)) (length fronts) l used now-used known (ap (λ (ds : List (Cell C)). length ds + used) w.is ∙ long) (λ m ne. ap length (other_blocks m ne)) in
           let c = s.count in
           let f : total (λ m. length (blocks_of u now-fronts m)) (length now-fronts) ≡ total (λ m. length (blocks_of u now-fronts m)) (length fronts) = ap (total (λ m. length (blocks_of u now-fronts m))) w.fronts_many in
           omega arith);
@@ -117,8 +117,8 @@ module _ {C : Type 0} where
     }
 
   -- Both pieces of a good block are good.
-  pub pieces-good : {K : Ghosts C} {cs : List (Cell C)} (n j : ℕ) → Lawful K → (c : CutBlock K cs) → AllByRecursion (Good K n) cs → AllByRecursion (Good K n) (pieces j c)
-  pieces-good {K} {cs} n j laws c good =
+  pub pieces_good : {K : Ghosts C} {cs : List (Cell C)} (n j : ℕ) → Lawful K → (c : CutBlock K cs) → AllByRecursion (Good K n) cs → AllByRecursion (Good K n) (pieces j c)
+  pieces_good {K} {cs} n j laws c good =
       let was : AllByRecursion (Good K n) (c.pre ++ cell c.place c.face ∷ c.post) = subst (λ (ds : List (Cell C)). AllByRecursion (Good K n) ds) c.parts good in
       let g : Good K n (cell c.place c.face) = all_at (Good K n) c.pre (cell c.place c.face) c.post was in
       let h = laws.halves c.offset c.face.content c.low c.high in
@@ -137,11 +137,11 @@ module _ {C : Type 0} where
 
   module _ {K : Ghosts C} {n used : ℕ} {t : List (Block C)} {fronts : List (Option ℕ)} (s : Shape K n t used fronts) where
     pub free : (l : ℕ) → Apart used (blocks_of t fronts l)
-    free l = low-apart used (blocks_of t fronts l) (s.low l)
+    free l = low_apart used (blocks_of t fronts l) (s.low l)
 
     module _ (l : ℕ) (c : CutBlock K (blocks_of t fronts l)) where
-      pub cut-good : Good K n (cell c.place c.face)
-      cut-good = all_at (Good K n) c.pre (cell c.place c.face) c.post (subst (λ (cs : List (Cell C)). AllByRecursion (Good K n) cs) c.parts (s.good l))
+      pub cut_good : Good K n (cell c.place c.face)
+      cut_good = all_at (Good K n) c.pre (cell c.place c.face) c.post (subst (λ (cs : List (Cell C)). AllByRecursion (Good K n) cs) c.parts (s.good l))
 
       abbrev pub cuttable : used < length t → Cuttable K t c.place c.offset used
       cuttable room = record {
@@ -156,11 +156,11 @@ module _ {C : Type 0} where
         free = free l;
         some_left = c.low;
         some_right = c.high;
-        ids = cut-good.numbered.ids;
+        ids = cut_good.numbered.ids;
       }
 
-      pub cut-changed : (room : used < length t) {u : List (Block C)} → Cut K t c.place c.offset used (cuttable room) u → Changed t u fronts fronts l (pieces used c)
-      cut-changed room w = record {
+      pub cut_changed : (room : used < length t) {u : List (Block C)} → Cut K t c.place c.offset used (cuttable room) u → Changed t u fronts fronts l (pieces used c)
+      cut_changed room w = record {
         stands = w.stands;
         is = w.now_cells;
         others = λ m ne. w.others m (front_of fronts m) ne (s.stands m) (free m);
@@ -168,21 +168,21 @@ module _ {C : Type 0} where
         fronts_many = refl;
       }
 
-      pub cut-shape : Lawful K → l < length fronts → used < length t → {u : List (Block C)} → length u ≡ length t → Changed t u fronts fronts l (pieces used c) → Shape K n u (used + 1) fronts
-      cut-shape laws known room long w =
+      pub cut_shape : Lawful K → l < length fronts → used < length t → {u : List (Block C)} → length u ≡ length t → Changed t u fronts fronts l (pieces used c) → Shape K n u (used + 1) fronts
+      cut_shape laws known room long w =
           let was-low : AllByRecursion (λ d. d.at < used) (c.pre ++ cell c.place c.face ∷ c.post) = subst (λ (cs : List (Cell C)). AllByRecursion (λ d. d.at < used) cs) c.parts (s.low l) in
-          shape-changed w K n used (used + 1) s known (omega arith) (omega arith)
+          shape_changed w K n used (used + 1) s known (omega arith) (omega arith)
           (all_join (λ d. d.at < used + 1) c.pre _ (lower used (used + 1) c.pre (omega arith) (all_front (λ d. d.at < used) c.pre _ was-low)) (
             let lt : c.place < used = all_at (λ d. d.at < used) c.pre (cell c.place c.face) c.post was-low in omega arith,
             (omega arith, lower used (used + 1) c.post (omega arith) (all_back (λ d. d.at < used) c.pre _ was-low).1),
           ))
-          (pieces-good n used laws c (s.good l))
+          (pieces_good n used laws c (s.good l))
           (let e : length (blocks_of t fronts l) ≡ length (c.pre ++ cell c.place c.face ∷ c.post) = ap length c.parts in
           omega (arith, simp length-append at e, length-append c.pre (cell c.place (left_piece K c.offset c.face) ∷ cell used (right_piece K c.offset c.face) ∷ c.post)))
 
 module _ {C : Type 0} (K : Ghosts C) (id : Id) (t : List (Block C)) (fronts : List (Option ℕ)) where
-  pub nowhere-past : ((m : ℕ) → m < length fronts → Lacks K id (blocks_of t fronts m)) → Nowhere K id t fronts
-  nowhere-past below m = elim (cases_lt m (length fronts)) [
+  pub nowhere_past : ((m : ℕ) → m < length fronts → Lacks K id (blocks_of t fronts m)) → Nowhere K id t fronts
+  nowhere_past below m = elim (cases_lt m (length fronts)) [
     | inl lt ↦ below m lt
     | inr ge ↦ subst (λ (cs : List (Cell C)). Lacks K id cs) (sym (ap (cells t) (get_or_past fronts m None (omega arith)) ∙ no_cells t)) tt
   ]

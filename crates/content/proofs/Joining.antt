@@ -15,9 +15,9 @@ rising_first low k high ks e =
     (ltb-true low k two.0, ltb-true k high two.1, both.1)
 
 module _ {C : Type 0} (K : Ghosts C) (L : Lawful K) (high : ℕ) where
-  pieces-sized : (done : ℕ) (ks : List ℕ) (c : C) → rising done ks high ≡ true → K.size c + done ≡ high → map K.size (cut_up K done ks c) ≡ lengths done ks high
-  pieces-sized done [] c up sum = let e : K.size c ≡ high - done = omega arith in ap (λ n. n ∷ []) e
-  pieces-sized done (k ∷ ks) c up sum =
+  pieces_sized : (done : ℕ) (ks : List ℕ) (c : C) → rising done ks high ≡ true → K.size c + done ≡ high → map K.size (cut_up K done ks c) ≡ lengths done ks high
+  pieces_sized done [] c up sum = let e : K.size c ≡ high - done = omega arith in ap (λ n. n ∷ []) e
+  pieces_sized done (k ∷ ks) c up sum =
       let n = rising_first done k high ks up in
       let low : 0 < k - done = omega arith in
       let below : k - done < K.size c = omega arith in
@@ -25,7 +25,7 @@ module _ {C : Type 0} (K : Ghosts C) (L : Lawful K) (high : ℕ) where
       let front : K.size (K.fore (k - done) c) ≡ k - done = half.front in
       let sums = half.sums in
       let rest : K.size (K.rear (k - done) c) + k ≡ high = omega arith in
-      ap₂ (λ m ms. m ∷ ms) front (pieces-sized k ks (K.rear (k - done) c) n.2 rest)
+      ap₂ (λ m ms. m ∷ ms) front (pieces_sized k ks (K.rear (k - done) c) n.2 rest)
 
   pieces_whole : (t : List ℕ) (done : ℕ) (ks : List ℕ) (c : C) → rising done ks high ≡ true → K.size c + done ≡ high → K.reach c ≤ length t → flat_map (K.units t) (cut_up K done ks c) ≡ K.units t c
   pieces_whole t done [] c up sum fit = append-nil (K.units t c)
@@ -44,8 +44,8 @@ module _ {C : Type 0} (K : Ghosts C) (L : Lawful K) (high : ℕ) where
 
 -- The pieces of a cut at offsets that rise inside the content.
 module _ {C : Type 0} (K : Ghosts C) (L : Lawful K) (c : C) (ks : List ℕ) (up : rising 0 ks (K.size c) ≡ true) (ps : List C) (is : ps ≡ cut_up K 0 ks c) where
-  pub all-sized : map K.size ps ≡ lengths 0 ks (K.size c)
-  all-sized = ap (map K.size) is ∙ pieces-sized K L (K.size c) 0 ks c up (add-zero (K.size c))
+  pub all_sized : map K.size ps ≡ lengths 0 ks (K.size c)
+  all_sized = ap (map K.size) is ∙ pieces_sized K L (K.size c) 0 ks c up (add-zero (K.size c))
 
   pub all_whole : MakeWhole K ps c
   all_whole t fit = ap (flat_map (K.units t)) is ∙ pieces_whole K L (K.size c) t 0 ks c up (add-zero (K.size c)) fit
@@ -84,8 +84,8 @@ module _ {C : Type 0} (K : Ghosts C) (c : C) (ks : List ℕ) (i : ℕ) (rest : C
       }
 
   -- All are cut, and the rest is the last piece.
-  pub all-cut : length ks ≤ i → length ps ≡ i + 1 → set ps i rest ≡ cut_up K 0 ks c
-  all-cut le e =
+  pub all_cut : length ks ≤ i → length ps ≡ i + 1 → set ps i rest ≡ cut_up K 0 ks c
+  all_cut le e =
       let lt : i < length ps = omega arith in
       let long : length (set ps i rest) ≤ i + 1 = simp length-set (omega arith) in
       sym (take_all (i + 1) (set ps i rest) long) ∙ take_more_set ps i rest lt

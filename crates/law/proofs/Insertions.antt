@@ -65,10 +65,10 @@ Known s N X = Sole s.start N X × Sole s.end N X × SideStands s.end X
 
 module _ (l : ℕ) (xs ys : List Face) (N : List Entry) where
   -- the places before the gap, and those behind it
-  held-left : (o : Option Source) → ((s : Source) → o ≡ Some s → s.list ≡ l → Known s N (laid xs ++ laid ys)) → (q : ℕ) → q < length (laid xs)
+  held_left : (o : Option Source) → ((s : Source) → o ≡ Some s → s.list ≡ l → Known s N (laid xs ++ laid ys)) → (q : ℕ) → q < length (laid xs)
       → holds_at o l (laid xs ++ laid ys) q ≡ holds_at o l (laid xs ++ (N ++ laid ys)) q
-  held-left None known q h = refl
-  held-left (Some s) known q h = elim (cases_Bool (eqb s.list l)) [
+  held_left None known q h = refl
+  held_left (Some s) known q h = elim (cases_Bool (eqb s.list l)) [
     | inl e ↦
         let k : Known s N (laid xs ++ laid ys) = known s refl (eqb-true _ _ e) in
         let ms = start_moved s.start (laid xs) N (laid ys) k.0 in
@@ -77,10 +77,10 @@ module _ (l : ℕ) (xs ys : List Face) (N : List Entry) where
     | inr e ↦ rw e
   ]
 
-  held-right : (o : Option Source) → ((s : Source) → o ≡ Some s → s.list ≡ l → Known s N (laid xs ++ laid ys)) → (q : ℕ) → length (laid xs) ≤ q
+  held_right : (o : Option Source) → ((s : Source) → o ≡ Some s → s.list ≡ l → Known s N (laid xs ++ laid ys)) → (q : ℕ) → length (laid xs) ≤ q
       → holds_at o l (laid xs ++ laid ys) q ≡ holds_at o l (laid xs ++ (N ++ laid ys)) (q + length N)
-  held-right None known q h = refl
-  held-right (Some s) known q h = elim (cases_Bool (eqb s.list l)) [
+  held_right None known q h = refl
+  held_right (Some s) known q h = elim (cases_Bool (eqb s.list l)) [
     | inl e ↦
         let k : Known s N (laid xs ++ laid ys) = known s refl (eqb-true _ _ e) in
         let ms = start_moved s.start (laid xs) N (laid ys) k.0 in
@@ -90,11 +90,11 @@ module _ (l : ℕ) (xs ys : List Face) (N : List Entry) where
   ]
 
   -- the new places
-  new-here : (s : Source) → Known s N (laid xs ++ laid ys) → Filled xs → Filled ys → (q : ℕ) → length (laid xs) ≤ q → q < length (laid xs) + length N
+  new_here : (s : Source) → Known s N (laid xs ++ laid ys) → Filled xs → Filled ys → (q : ℕ) → length (laid xs) ≤ q → q < length (laid xs) + length N
       → (((ltb 0 (length (laid xs)) && within s (laid xs ++ laid ys) (length (laid xs) - 1)) || side_starts s.start (option_map last_id (last_of xs)))
       && ((ltb 0 (length (laid ys)) && within s (laid xs ++ laid ys) (length (laid xs))) || side_ends s.end (option_map first_id (first_of ys))))
       ≡ within s (laid xs ++ (N ++ laid ys)) q
-  new-here s k fx fy q lo hi =
+  new_here s k fx fy q lo hi =
       let g : ℕ = length (laid xs) in
       let S : ℕ = start_gap s.start (laid xs ++ laid ys) in
       let T : ℕ = end_gap s.end (laid xs ++ laid ys) in
@@ -125,7 +125,7 @@ module _ (l : ℕ) (xs ys : List Face) (N : List Entry) where
       ≡ holds_at o l (laid xs ++ (N ++ laid ys)) q
   held_new None known fx fy q lo hi = rw (and-false (ltb 0 (length (laid xs))))
   held_new (Some s) known fx fy q lo hi = elim (cases_Bool (eqb s.list l)) [
-    | inl e ↦ rw e (new-here s (known s refl (eqb-true _ _ e)) fx fy q lo hi)
+    | inl e ↦ rw e (new_here s (known s refl (eqb-true _ _ e)) fx fy q lo hi)
     | inr e ↦ rw (e, and-false (ltb 0 (length (laid xs))))
   ]
 
@@ -140,10 +140,10 @@ module _ (F : ℕ → List Face) (p : Plain) (law : Law F p) (c : ℕ) (countabl
     | inr d ↦ times_client a _ countable false us d
   ]
 
-  sole-side : (S : Side) (m : ℕ) → SideStands S (p.lists m) → Sole S news (p.lists m)
-  sole-side Open m h = tt
-  sole-side (Before a) m h = (fresh a (counted F p law a m (standing a (p.lists m) h)), ids_once F p m a law)
-  sole-side (After a) m h = (fresh a (counted F p law a m (standing a (p.lists m) h)), ids_once F p m a law)
+  sole_side : (S : Side) (m : ℕ) → SideStands S (p.lists m) → Sole S news (p.lists m)
+  sole_side Open m h = tt
+  sole_side (Before a) m h = (fresh a (counted F p law a m (standing a (p.lists m) h)), ids_once F p m a law)
+  sole_side (After a) m h = (fresh a (counted F p law a m (standing a (p.lists m) h)), ids_once F p m a law)
 
   times-put : (X A B W : List Entry) → X ≡ A ++ B → W ≡ A ++ (news ++ B) → (a : Id) → times a W ≡ times a X + times a news
   times-put X A B W hx hw a =
@@ -153,13 +153,13 @@ module _ (F : ℕ → List Face) (p : Plain) (law : Law F p) (c : ℕ) (countabl
       omega arith
 
   module _ (l : ℕ) (W : List Entry) (tW : (a : Id) → times a W ≡ times a (p.lists l) + times a news) where
-    times-stay : (a : Id) → times a news ≡ 0 → (m : ℕ) → times a (put l W p.lists m) ≡ times a (p.lists m)
-    times-stay a none = put_each (λ m y. times a y ≡ times a (p.lists m)) l W p.lists (omega (arith, tW a)) (λ m _. refl)
+    times_stay : (a : Id) → times a news ≡ 0 → (m : ℕ) → times a (put l W p.lists m) ≡ times a (p.lists m)
+    times_stay a none = put_each (λ m y. times a y ≡ times a (p.lists m)) l W p.lists (omega (arith, tW a)) (λ m _. refl)
 
-    inserted-once : (a : Id) → a.clock < put c (p.counts c + length us) p.counts a.client
+    inserted_once : (a : Id) → a.clock < put c (p.counts c + length us) p.counts a.client
         → (m : ℕ) × (times a (put l W p.lists m) ≡ 1) × ((k : ℕ) → (k ≡ m → ⊥) → times a (put l W p.lists k) ≡ 0)
-    inserted-once a h = elim (cases_lt a.clock (p.counts a.client)) [
-      | inl k ↦ let o = law.once a k in (o.0, times-stay a (fresh a k) o.0 ∙ o.1, λ m d. times-stay a (fresh a k) m ∙ o.2 m d)
+    inserted_once a h = elim (cases_lt a.clock (p.counts a.client)) [
+      | inl k ↦ let o = law.once a k in (o.0, times_stay a (fresh a k) o.0 ∙ o.1, λ m d. times_stay a (fresh a k) m ∙ o.2 m d)
       | inr k ↦ elim (cases_eq a.client c) [
         | inl e ↦
             let h' : a.clock < p.counts c + length us = rw (eq-eqb a.client c e) at h in
@@ -174,26 +174,26 @@ module _ (F : ℕ → List Face) (p : Plain) (law : Law F p) (c : ℕ) (countabl
       ]
     ]
 
-    inserted-never : (a : Id) → put c (p.counts c + length us) p.counts a.client ≤ a.clock → (m : ℕ) → times a (put l W p.lists m) ≡ 0
-    inserted-never a h m = elim (cases_eq a.client c) [
+    inserted_never : (a : Id) → put c (p.counts c + length us) p.counts a.client ≤ a.clock → (m : ℕ) → times a (put l W p.lists m) ≡ 0
+    inserted_never a h m = elim (cases_eq a.client c) [
       | inl e ↦
           let h' : p.counts c + length us ≤ a.clock = rw (eq-eqb a.client c e) at h in
           let k : p.counts a.client ≤ a.clock = subst (λ z. p.counts z ≤ a.clock) (sym e) (omega arith) in
-          times-stay a (times_past a _ countable false us h') m ∙ law.never a k m
+          times_stay a (times_past a _ countable false us h') m ∙ law.never a k m
       | inr d ↦
           let h' : p.counts a.client ≤ a.clock = rw (ne_eqb a.client c d) at h in
-          times-stay a (times_client a _ countable false us d) m ∙ law.never a h' m
+          times_stay a (times_client a _ countable false us d) m ∙ law.never a h' m
     ]
 
-    inserted-anchored : (A B : List Entry) → p.lists l ≡ A ++ B → W ≡ A ++ (news ++ B)
+    inserted_anchored : (A B : List Entry) → p.lists l ≡ A ++ B → W ≡ A ++ (news ++ B)
         → (n : ℕ) (s : Source) → p.links n ≡ Some s → Anchored s (put l W p.lists s.list)
-    inserted-anchored A B wx xw n s live =
+    inserted_anchored A B wx xw n s live =
         put_each (λ m y. s.list ≡ m → Anchored s y) l W p.lists
         (λ e.
         let b = law.anchored n s live in
         let x : p.lists s.list ≡ A ++ B = ap p.lists e ∙ wx in
-        let u = subst (λ z. Sole s.start news z) x (sole-side s.start s.list b.0) in
-        let v = subst (λ z. Sole s.end news z) x (sole-side s.end s.list b.1) in (
+        let u = subst (λ z. Sole s.start news z) x (sole_side s.start s.list b.0) in
+        let v = subst (λ z. Sole s.end news z) x (sole_side s.end s.list b.1) in (
           subst (λ z. SideStands s.start z) (sym xw) (anchor_grow s.start A news B u (subst (λ z. SideStands s.start z) x b.0)),
           subst (λ z. SideStands s.end z) (sym xw) (anchor_grow s.end A news B v (subst (λ z. SideStands s.end z) x b.1)),
         ))
@@ -249,7 +249,7 @@ insert_keeps F p l i c w countable us xs ys law new-there =
     let known : (n : ℕ) (s : Source) → p.links n ≡ Some s → s.list ≡ l → Known s N (laid xs ++ laid ys)
     = λ n s live e.
     let a : Anchored s (p.lists s.list) = law.anchored n s live in
-    let sole : (S : Side) → SideStands S (p.lists s.list) → Sole S N (p.lists s.list) = λ S. sole-side F p law c countable us S s.list in
+    let sole : (S : Side) → SideStands S (p.lists s.list) → Sole S N (p.lists s.list) = λ S. sole_side F p law c countable us S s.list in
     let b : Known s N (p.lists s.list) = (sole s.start a.0, sole s.end a.1, a.1) in
     subst (λ z. Known s N z) (ap p.lists e ∙ wx) b in
     let bits : (n q : ℕ) → 0 + length (laid xs) ≤ q → q < 0 + length (laid xs) + length us → bit n w ≡ K' n q
@@ -258,9 +258,9 @@ insert_keeps F p l i c w countable us xs ys law new-there =
     ∙ rw (left_bit K xs fx lx n, right_bit K (length (laid xs)) ys fy ly0 n) (held_new l xs ys N (p.links n) (known n) fx fy q (omega arith) (omega arith)) in
     let moved : Linked K' (0 + length (laid xs) + length us) ys
     = linked_move K K' (0 + length (laid xs)) (length us) ys
-    (λ n q lo hi. held-right l xs ys N (p.links n) (known n) q (omega arith) ∙ ap (λ z. K' n (q + z)) hn) ly in
+    (λ n q lo hi. held_right l xs ys N (p.links n) (known n) q (omega arith) ∙ ap (λ z. K' n (q + z)) hn) ly in
     let lk' : Linked K' 0 (xs ++ new ∷ ys)
-    = linked_join K' 0 xs (new ∷ ys) (linked_on K K' 0 xs (λ n q lo hi. held-left l xs ys N (p.links n) (known n) q (omega arith)) lx) (bits, moved) in
+    = linked_join K' 0 xs (new ∷ ys) (linked_on K K' 0 xs (λ n q lo hi. held_left l xs ys N (p.links n) (known n) q (omega arith)) lx) (bits, moved) in
     let tW : (a : Id) → times a W ≡ times a (p.lists l) + times a N
     = times-put F p law c countable us (p.lists l) (laid xs) (laid ys) W wx xw in
     record {
@@ -268,10 +268,10 @@ insert_keeps F p l i c w countable us xs ys law new-there =
       filled = put_each (λ m z. Filled z) l (xs ++ new ∷ ys) F (All-append _ xs (new ∷ ys) fx (pos, fy)) (λ m _. law.filled m);
       linked = put_each_two (λ m z y. Linked (λ n q. holds_at (p.links n) m y q) 0 z) l (xs ++ new ∷ ys) F W p.lists
           (subst (λ y. Linked (λ n q. holds_at (p.links n) l y q) 0 (xs ++ new ∷ ys)) (sym xw) lk') (λ m _. law.linked m);
-      anchored = inserted-anchored F p law c countable us l W tW (laid xs) (laid ys) wx xw;
+      anchored = inserted_anchored F p law c countable us l W tW (laid xs) (laid ys) wx xw;
       few = law.few;
-      once = inserted-once F p law c countable us l W tW;
-      never = inserted-never F p law c countable us l W tW;
+      once = inserted_once F p law c countable us l W tW;
+      never = inserted_never F p law c countable us l W tW;
       clients = clients_after F p law l i c countable us pos;
     }
 

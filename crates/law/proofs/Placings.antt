@@ -45,13 +45,13 @@ withdraw_keeps F p n law hn =
 
 -- what a placing changes of where the links are
 module _ (p : Plain) (n : ℕ) (s : Source) (none : p.links n ≡ None) where
-  placed-other : (m : ℕ) → (m ≡ s.list → ⊥) → (q k : ℕ) → held p m k q ≡ held (after p (Placed n s)) m k q
-  placed-other m d q = put_each (λ k o. held p m k q ≡ holds_at o m (p.lists m) q) n (Some s) p.links
+  placed_other : (m : ℕ) → (m ≡ s.list → ⊥) → (q k : ℕ) → held p m k q ≡ held (after p (Placed n s)) m k q
+  placed_other m d q = put_each (λ k o. held p m k q ≡ holds_at o m (p.lists m) q) n (Some s) p.links
       (rw (none, ne_eqb s.list m (λ e. d (sym e)))) (λ k _. refl)
 
-  placed-here : (q : ℕ) (b : Bool) → within s (p.lists s.list) q ≡ b → (k : ℕ)
+  placed_here : (q : ℕ) (b : Bool) → within s (p.lists s.list) q ≡ b → (k : ℕ)
       → held (after p (Placed n s)) s.list k q ≡ (held p s.list k q || (eqb k n && b))
-  placed-here q b h k = elim (cases_eq k n) [
+  placed_here q b h k = elim (cases_eq k n) [
     | inl e ↦ rw (eq-eqb k n e, e, none, eq-eqb s.list s.list refl) h
     | inr e ↦ rw (ne_eqb k n e) (sym (or-false (held p s.list k q)))
   ]
@@ -79,7 +79,7 @@ place_keeps F p n s xs ms ys law able there =
     let two : length (laid (xs ++ ms)) ≡ length (laid xs) + length (laid ms) = ap length (laid-append xs ms) ∙ length-append (laid xs) (laid ms) in
     let X : List Entry = p.lists l in
     let off : (q : ℕ) → within s X q ≡ false → (k : ℕ) → J l k q ≡ J' l k q
-    = λ q o k. sym (placed-here p n s able.free q false o k ∙ ap (λ z. J l k q || z) (and-false (eqb k n)) ∙ or-false (J l k q)) in
+    = λ q o k. sym (placed_here p n s able.free q false o k ∙ ap (λ z. J l k q || z) (and-false (eqb k n)) ∙ or-false (J l k q)) in
     record {
       holds = put_each (λ m z. laid z ≡ p.lists m) l _ F
           (laid-three xs (map (marked n) ms) ys ∙ ap (λ r. laid xs ++ (r ++ laid ys)) (laid-map (marked n) (λ f. refl) ms)
@@ -90,10 +90,10 @@ place_keeps F p n s xs ms ys law able there =
           (linked_three (J l) (J' l) (marked n) (λ f. refl) xs ms ys
           (λ k q hi. off q (out_left _ _ q (omega arith)) k)
           (λ k q lo hi f h. bit-or k f.links (2 ^ n) ∙ ap (λ z. bit k f.links || z) (bit-one k n) ∙ ap (λ z. z || eqb k n) h
-          ∙ sym (placed-here p n s able.free q true (inside _ _ q (omega arith) (omega arith)) k ∙ ap (λ z. J l k q || z) (and-true (eqb k n))))
+          ∙ sym (placed_here p n s able.free q true (inside _ _ q (omega arith) (omega arith)) k ∙ ap (λ z. J l k q || z) (and-true (eqb k n))))
           (λ k q lo. off q (out_right _ _ q (omega arith)) k)
           (subst (λ z. Linked (J l) 0 z) at (law.linked l)))
-          (λ m d. linked_on (J m) (J' m) 0 (F m) (λ k q lo hi. placed-other p n s able.free m d q k) (law.linked m));
+          (λ m d. linked_on (J m) (J' m) 0 (F m) (λ k q lo hi. placed_other p n s able.free m d q k) (law.linked m));
       anchored = placed_anchored p n s F law able;
       few = placed_few p n s F law able;
       once = law.once;
@@ -107,13 +107,13 @@ place_empty_keeps F p n s law able cross =
     let J : ℕ → ℕ → ℕ → Bool = held p in
     let J' : ℕ → ℕ → ℕ → Bool = held p' in
     let here : (k q : ℕ) → J s.list k q ≡ J' s.list k q
-    = λ k q. sym (placed-here p n s able.free q false (crossed _ _ q cross) k ∙ ap (λ z. J s.list k q || z) (and-false (eqb k n)) ∙ or-false (J s.list k q)) in
+    = λ k q. sym (placed_here p n s able.free q false (crossed _ _ q cross) k ∙ ap (λ z. J s.list k q || z) (and-false (eqb k n)) ∙ or-false (J s.list k q)) in
     record {
       holds = law.holds;
       filled = law.filled;
       linked = λ m. elim (cases_eq m s.list) [
         | inl e ↦ subst (λ z. Linked (J' z) 0 (F z)) (sym e) (linked_on (J s.list) (J' s.list) 0 (F s.list) (λ k q lo hi. here k q) (law.linked s.list))
-        | inr d ↦ linked_on (J m) (J' m) 0 (F m) (λ k q lo hi. placed-other p n s able.free m d q k) (law.linked m)
+        | inr d ↦ linked_on (J m) (J' m) 0 (F m) (λ k q lo hi. placed_other p n s able.free m d q k) (law.linked m)
       ];
       anchored = placed_anchored p n s F law able;
       few = placed_few p n s F law able;

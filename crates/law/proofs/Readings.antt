@@ -23,11 +23,11 @@ picked-alike I true at [] h = refl
 picked-alike I false at [] h = refl
 picked-alike I b at (e ∷ es) h =
     let r : picked I (suc at) es ≡ cond b es [] = picked-alike I b (suc at) es (λ q lo hi. h q (omega arith) (omega arith)) in
-    rw (← h at (omega arith) (omega arith), r) (cond-cons b e es)
+    rw (← h at (omega arith) (omega arith), r) (cond_cons b e es)
   where
-    cond-cons : (b : Bool) (e : Entry) (es : List Entry) → cond b (e ∷ cond b es []) (cond b es []) ≡ cond b (e ∷ es) []
-    cond-cons true e es = refl
-    cond-cons false e es = refl
+    cond_cons : (b : Bool) (e : Entry) (es : List Entry) → cond b (e ∷ cond b es []) (cond b es []) ≡ cond b (e ∷ es) []
+    cond_cons true e es = refl
+    cond_cons false e es = refl
 
 kept_cond : (b : Bool) (es : List Entry) → filter visible (cond b es []) ≡ cond b (filter visible es) []
 kept_cond true es = refl

@@ -26,8 +26,8 @@ module _ (ws more : List ℕ) (used : ℕ) (le : used ≤ length ws) where
       let rest = drop (used + length more) ws in
       ap (take (used + length more)) (sym (append_assoc (take used ws) more rest)) ∙ take_at (take used ws ++ more) rest (used + length more) long
 
-  pub length-used-after : length (take (used + length more) (appended ws used more)) ≡ used + length more
-  length-used-after = ap length used_after ∙ long
+  pub length_used_after : length (take (used + length more) (appended ws used more)) ≡ used + length more
+  length_used_after = ap length used_after ∙ long
 
-  pub appended-keeps : take used (appended ws used more) ≡ take used ws
-  appended-keeps = take_at (take used ws) (more ++ drop (used + length more) ws) used (length-take-le used ws le)
+  pub appended_keeps : take used (appended ws used more) ≡ take used ws
+  appended_keeps = take_at (take used ws) (more ++ drop (used + length more) ws) used (length-take-le used ws le)

@@ -59,14 +59,14 @@ one_of us i (suc (suc (suc (suc j)))) lt = absurd (omega arith)
 
 module _ (us : List ℕ) (small : (i : ℕ) → get_or us i 0 < 65536) where
   -- The bits from 16 · j on of a packed word are its unit j.
-  slot-back : (i j : ℕ) → j < 4 → slot (packed_at us i) j ≡ get_or us (i + j) 0
-  slot-back i j lt =
+  slot_back : (i j : ℕ) → j < 4 → slot (packed_at us i) j ≡ get_or us (i + j) 0
+  slot_back i j lt =
       slot_of (get_or us i 0) (get_or us (i + 1) 0) (get_or us (i + 2) 0) (get_or us (i + 3) 0) j (small i) (small (i + 1)) (small (i + 2)) (small (i + 3)) lt
       ∙ one_of us i j lt
 
   -- The units that are packed into the words that follow those of p.
-  pub text-back : (p : List ℕ) (a : ℕ) → length p ≡ a → run (code_unit (p ++ packed us)) (4 * a) (4 * a + length us) ≡ us
-  text-back p a e =
+  pub text_back : (p : List ℕ) (a : ℕ) → length p ≡ a → run (code_unit (p ++ packed us)) (4 * a) (4 * a + length us) ≡ us
+  text_back p a e =
       run_is (code_unit (p ++ packed us)) (4 * a) us
       (λ i lt.
       let n = words_of (length us) in
@@ -80,5 +80,5 @@ module _ (us : List ℕ) (small : (i : ℕ) → get_or us i 0 < 65536) where
       ∙ ap (λ k. get_or (packed us) k 0) at
       ∙ get_or-map-range_with_len (λ k. packed_at us (4 * k)) 0 n (i / 4) (i / 4) 0 (omega arith) (omega arith)
       )
-      ∙ slot-back (4 * (i / 4)) (i % 4) (omega arith)
+      ∙ slot_back (4 * (i / 4)) (i % 4) (omega arith)
       ∙ ap (λ k. get_or us k 0) place)

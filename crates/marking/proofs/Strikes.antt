@@ -8,9 +8,9 @@ use Rattle.table.specs.declared.block.Block.{Block}
 use Rattle.table.specs.Cells.{Face, Cell, cell, block, face_of, front, cells}
 use Rattle.table.specs.Lookups.{shown, visible}
 use Rattle.table.proofs.Paths.{none_some, all_front, all_back}
-use Rattle.table.proofs.Walks.{Opened, opened, shown-all}
+use Rattle.table.proofs.Walks.{Opened, opened, shown_all}
 use Rattle.marking.specs.Strikes.{struck, struck_cell, in_sight, union, Strikable, Struck}
-use Rattle.marking.proofs.Marks.{Marking, marking-start, marking-within, marking-falls, marking-face, marking-write, marking-keep, marking-stands, marking-cells, marking-others}
+use Rattle.marking.proofs.Marks.{Marking, marking_start, marking_within, marking_falls, marking_face, marking_write, marking_keep, marking_stands, marking_cells, marking_others}
 use Rattle.marking.proofs.Unions.{or_assoc}
 
 -- What the code writes.
@@ -36,21 +36,21 @@ mark_same true false e = e
 mark_same false removed e = refl
 
 module _ {C : Type 0} (K : Ghosts C) where
-  struck-same : (f : Face C) → in_sight K f ≡ false → struck K f ≡ f
-  struck-same f e = ap (λ (r : Bool). record { id = f.id; origin = f.origin; right_origin = f.right_origin; removed = r; links = f.links; content = f.content }) (mark_same (K.counts f.content) f.removed e)
+  struck_same : (f : Face C) → in_sight K f ≡ false → struck K f ≡ f
+  struck_same f e = ap (λ (r : Bool). record { id = f.id; origin = f.origin; right_origin = f.right_origin; removed = r; links = f.links; content = f.content }) (mark_same (K.counts f.content) f.removed e)
 
-  hidden-shown : (f : Face C) → in_sight K f ≡ false → shown K f ≡ 0
-  hidden-shown f = none-shown f.removed (K.counts f.content) (K.size f.content)
+  hidden_shown : (f : Face C) → in_sight K f ≡ false → shown K f ≡ 0
+  hidden_shown f = none-shown f.removed (K.counts f.content) (K.size f.content)
 
   unseen : (f : Face C) → 0 < K.size f.content → shown K f ≡ 0 → in_sight K f ≡ false
   unseen f = out_of_sight f.removed (K.counts f.content) (K.size f.content)
 
-  unseen-cells : (cs : List (Cell C)) → AllByRecursion (λ c. 0 < K.size c.face.content) cs → visible K cs ≡ 0 → (map (struck_cell K) cs ≡ cs) × (union K cs ≡ 0)
-  unseen-cells [] a e = (refl, refl)
-  unseen-cells (c ∷ cs) a e =
+  unseen_cells : (cs : List (Cell C)) → AllByRecursion (λ c. 0 < K.size c.face.content) cs → visible K cs ≡ 0 → (map (struck_cell K) cs ≡ cs) × (union K cs ≡ 0)
+  unseen_cells [] a e = (refl, refl)
+  unseen_cells (c ∷ cs) a e =
       let none : in_sight K c.face ≡ false = unseen c.face a.0 (omega arith) in
-      let more = unseen-cells cs a.1 (omega arith) in (
-        ap₂ ◌∷◌ (ap (λ (f : Face C). cell c.at f) (struck-same c.face none)) more.0,
+      let more = unseen_cells cs a.1 (omega arith) in (
+        ap₂ ◌∷◌ (ap (λ (f : Face C). cell c.at f) (struck_same c.face none)) more.0,
         ap (λ (seen : Bool). cond seen (bit_or c.face.links (union K cs)) (union K cs)) none ∙ more.1,
       )
 
@@ -69,8 +69,8 @@ pub record Striking {C : Type 0} (K : Ghosts C) (t : List (Block C)) (from : Opt
   pub joins : bit_or links (union K walk.rest) ≡ union K w.ms
 
 module _ {C : Type 0} {K : Ghosts C} {t : List (Block C)} {from : Option ℕ} {n : ℕ} (w : Strikable K t from n) where
-  pub strike-start : Striking K t from n w t from n 0
-  strike-start = record { walk = marking-start w.stands w.parts w.at_hand; owed = w.sum; joins = refl }
+  pub strike_start : Striking K t from n w t from n 0
+  strike_start = record { walk = marking_start w.stands w.parts w.at_hand; owed = w.sum; joins = refl }
 
   module _ {u : List (Block C)} {cur : Option ℕ} {left links : ℕ} (s : Striking K t from n w u cur left links) where
     filled : AllByRecursion (λ c. 0 < K.size c.face.content) s.walk.rest
@@ -81,32 +81,32 @@ module _ {C : Type 0} {K : Ghosts C} {t : List (Block C)} {from : Option ℕ} {n
 
     pub strike-done : left ≡ 0 → Struck K t from n w u links
     strike-done e =
-        let none = unseen-cells K s.walk.rest filled (s.owed ∙ e) in
+        let none = unseen_cells K s.walk.rest filled (s.owed ∙ e) in
         record {
-          stands = marking-stands s.walk w.stands w.parts none.0;
-          now_cells = marking-cells s.walk w.stands w.parts none.0;
-          others = marking-others s.walk;
+          stands = marking_stands s.walk w.stands w.parts none.0;
+          now_cells = marking_cells s.walk w.stands w.parts none.0;
+          others = marking_others s.walk;
           elsewhere = s.walk.elsewhere;
           links = sym (or_zero_r links) ∙ ap (λ k. bit_or links k) (sym none.1) ∙ s.joins;
         }
 
-    pub strike-end : cur ≡ None → Struck K t from n w u links
-    strike-end e = strike-done (sym s.owed ∙ none_left K s.walk.rest w.ys (s.walk.at_hand ∙ e))
+    pub strike_end : cur ≡ None → Struck K t from n w u links
+    strike_end e = strike-done (sym s.owed ∙ none_left K s.walk.rest w.ys (s.walk.at_hand ∙ e))
 
     module _ {i : ℕ} (e : cur ≡ Some i) (some : 0 < left) where
       next : Opened i s.walk.rest
       next = turn K i s.walk.rest w.ys (s.walk.at_hand ∙ e) (subst (λ k. 0 < k) (sym s.owed) some)
 
       pub strike-within : i < length u
-      strike-within = marking-within s.walk next
+      strike-within = marking_within s.walk next
 
       module _ {b : Block C} (read : b ≡ get_or u i b) where
         owed : shown K (face_of b) + visible K next.rest ≡ left
-        owed = ap (λ (f : Face C). shown K f + visible K next.rest) (marking-face s.walk next read) ∙ sym (ap (visible K) next.parts) ∙ s.owed
+        owed = ap (λ (f : Face C). shown K f + visible K next.rest) (marking_face s.walk next read) ∙ sym (ap (visible K) next.parts) ∙ s.owed
 
         joins : bit_or links (cond (in_sight K (face_of b)) (bit_or b.links (union K next.rest)) (union K next.rest)) ≡ union K w.ms
         joins =
-            ap (λ (f : Face C). bit_or links (union K (cell i f ∷ next.rest))) (marking-face s.walk next read)
+            ap (λ (f : Face C). bit_or links (union K (cell i f ∷ next.rest))) (marking_face s.walk next read)
             ∙ sym (ap (λ (xs : List (Cell C)). bit_or links (union K xs)) next.parts) ∙ s.joins
 
         -- A visible block.
@@ -115,36 +115,36 @@ module _ {C : Type 0} {K : Ghosts C} {t : List (Block C)} {from : Option ℕ} {n
           seen = rw (stays, counted)
 
           size_is : K.size b.content + visible K next.rest ≡ left
-          size_is = sym (ap (λ k. k + visible K next.rest) (shown-all K (face_of b) stays counted)) ∙ owed
+          size_is = sym (ap (λ k. k + visible K next.rest) (shown_all K (face_of b) stays counted)) ∙ owed
 
-          pub strike-enough : K.size b.content ≤ left
-          strike-enough = let e = size_is in omega arith
+          pub strike_enough : K.size b.content ≤ left
+          strike_enough = let e = size_is in omega arith
 
-          gone-is : gone b ≡ block b.list b.left b.right (struck K (face_of b))
-          gone-is = rw counted
+          gone_is : gone b ≡ block b.list b.left b.right (struck K (face_of b))
+          gone_is = rw counted
 
           pub strike-mark : (k : ℕ) → k ≡ K.size b.content → Striking K t from n w (set u i (gone b)) b.right (left - k) (bit_or links b.links)
           strike-mark k is = record {
-            walk = marking-write s.walk next read gone-is;
+            walk = marking_write s.walk next read gone_is;
             owed = let e = size_is in omega arith;
             joins = or_assoc links b.links (union K next.rest)
                 ∙ ap (λ (test : Bool). bit_or links (cond test (bit_or b.links (union K next.rest)) (union K next.rest))) (sym seen) ∙ joins;
           }
 
-          pub strike-mark-falls : length (cells (set u i (gone b)) b.right) < length (cells u cur)
-          strike-mark-falls = marking-falls s.walk next (marking-write s.walk next read gone-is) refl
+          pub strike_mark_falls : length (cells (set u i (gone b)) b.right) < length (cells u cur)
+          strike_mark_falls = marking_falls s.walk next (marking_write s.walk next read gone_is) refl
 
         -- A block that has no visible unit.
         module _ (none : in_sight K (face_of b) ≡ false) where
-          face-same : struck K next.face ≡ next.face
-          face-same = struck-same K next.face (ap (in_sight K) (sym (marking-face s.walk next read)) ∙ none)
+          face_same : struck K next.face ≡ next.face
+          face_same = struck_same K next.face (ap (in_sight K) (sym (marking_face s.walk next read)) ∙ none)
 
-          pub strike-pass : Striking K t from n w u b.right left links
-          strike-pass = record {
-            walk = marking-keep s.walk next read face-same;
-            owed = let none-shown : shown K (face_of b) ≡ 0 = hidden-shown K (face_of b) none in let sum = owed in omega arith;
+          pub strike_pass : Striking K t from n w u b.right left links
+          strike_pass = record {
+            walk = marking_keep s.walk next read face_same;
+            owed = let none-shown : shown K (face_of b) ≡ 0 = hidden_shown K (face_of b) none in let sum = owed in omega arith;
             joins = ap (λ (test : Bool). bit_or links (cond test (bit_or b.links (union K next.rest)) (union K next.rest))) (sym none) ∙ joins;
           }
 
-          pub strike-pass-falls : length (cells u b.right) < length (cells u cur)
-          strike-pass-falls = marking-falls s.walk next (marking-keep s.walk next read face-same) refl
+          pub strike_pass_falls : length (cells u b.right) < length (cells u cur)
+          strike_pass_falls = marking_falls s.walk next (marking_keep s.walk next read face_same) refl

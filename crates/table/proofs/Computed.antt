@@ -5,7 +5,7 @@ use Rattle.std.proofs.lemmas.Bool.{cases_eq}
 use Rattle.std.specs.List.{slice_get, AllByRecursion}
 use Rattle.table.specs.declared.block.Block.{Block}
 use Rattle.table.specs.Cells.{Cell, cell, block, face_of, front, Path, Apart, with_block, cells_from, cells, Stands, Kept}
-use Rattle.table.proofs.Paths.{path-apart}
+use Rattle.table.proofs.Paths.{path_apart}
 
 -- No two of the cells are at one place.
 abbrev Distinct : {C : Type 0} → List (Cell C) → Type 0
@@ -16,13 +16,13 @@ abbrev Below : {C : Type 0} → ℕ → List (Cell C) → Type 0
 Below n cs = AllByRecursion (λ c. c.at < n) cs
 
 module _ {C : Type 0} where
-  path-distinct : (t : List (Block C)) (l : ℕ) (p : Option ℕ) (xs : List (Cell C)) → Path t l p xs → Distinct xs
-  path-distinct t l p [] s = tt
-  path-distinct t l p (x ∷ xs) s = (path-apart t l p x xs s, path-distinct t l (Some x.at) xs s.1)
+  path_distinct : (t : List (Block C)) (l : ℕ) (p : Option ℕ) (xs : List (Cell C)) → Path t l p xs → Distinct xs
+  path_distinct t l p [] s = tt
+  path_distinct t l p (x ∷ xs) s = (path_apart t l p x xs s, path_distinct t l (Some x.at) xs s.1)
 
-  path-below : (t : List (Block C)) (l : ℕ) (p : Option ℕ) (xs : List (Cell C)) → Path t l p xs → Below (length t) xs
-  path-below t l p [] s = tt
-  path-below t l p (x ∷ xs) s = (s.0.within, path-below t l (Some x.at) xs s.1)
+  path_below : (t : List (Block C)) (l : ℕ) (p : Option ℕ) (xs : List (Cell C)) → Path t l p xs → Below (length t) xs
+  path_below t l p [] s = tt
+  path_below t l p (x ∷ xs) s = (s.0.within, path_below t l (Some x.at) xs s.1)
 
   lower : (n : ℕ) (xs : List (Cell C)) → Apart n xs → Below (suc n) xs → Below n xs
   lower n [] a b = tt
@@ -59,21 +59,21 @@ module _ {C : Type 0} where
       let long : length xs ≤ suc (length r.left) = r.long in
       omega arith
 
-  from-fuel : (k : ℕ) (t : List (Block C)) (l : ℕ) (p : Option ℕ) (xs : List (Cell C)) → Path t l p xs → length xs ≤ k → cells_from k t (front xs) ≡ xs
-  from-fuel zero t l p [] s le = refl
-  from-fuel zero t l p (x ∷ xs) s le = absurd (omega arith)
-  from-fuel (suc k) t l p [] s le = refl
-  from-fuel (suc k) t l p (x ∷ xs) s le =
+  from_fuel : (k : ℕ) (t : List (Block C)) (l : ℕ) (p : Option ℕ) (xs : List (Cell C)) → Path t l p xs → length xs ≤ k → cells_from k t (front xs) ≡ xs
+  from_fuel zero t l p [] s le = refl
+  from_fuel zero t l p (x ∷ xs) s le = absurd (omega arith)
+  from_fuel (suc k) t l p [] s le = refl
+  from_fuel (suc k) t l p (x ∷ xs) s le =
       let b : Block C = block l p (front xs) x.face in
       let read : slice_get t x.at ≡ Some b = slice_get_read t (length t) x.at b refl s.0.within s.0.is in
       ap (λ (o : Option (Block C)). with_block o (λ y. cell x.at (face_of y) ∷ cells_from k t y.right)) read
-      ∙ ap (λ ys. x ∷ ys) (from-fuel k t l (Some x.at) xs s.1 (omega arith))
+      ∙ ap (λ ys. x ∷ ys) (from_fuel k t l (Some x.at) xs s.1 (omega arith))
 
   -- Any path from a place is the computed list there.
   pub cells_of : (t : List (Block C)) (l : ℕ) (p start : Option ℕ) (xs : List (Cell C)) → Path t l p xs → front xs ≡ start → cells t start ≡ xs
   unfolding cells
   cells_of t l p start xs s e =
-      ap (λ o. cells_from (length t) t o) (sym e) ∙ from-fuel (length t) t l p xs s (few (length t) xs (path-distinct t l p xs s) (path-below t l p xs s))
+      ap (λ o. cells_from (length t) t o) (sym e) ∙ from_fuel (length t) t l p xs s (few (length t) xs (path_distinct t l p xs s) (path_below t l p xs s))
 
   pub stands_of : (t : List (Block C)) (l : ℕ) (start : Option ℕ) (xs : List (Cell C)) → Path t l None xs → front xs ≡ start → Stands t l start
   stands_of t l start xs s e =

@@ -41,77 +41,77 @@ module _ {C : Type 0} where
   last-append p [] ys = refl
   last-append p (x ∷ xs) ys = last-append (Some x.at) xs ys
 
-  pub seg-join : (t : List (Block C)) (l : ℕ) (p : Option ℕ) (xs ys : List (Cell C)) (n : Option ℕ) → Seg t l p xs (front_or ys n) → Seg t l (last p xs) ys n → Seg t l p (xs ++ ys) n
-  seg-join t l p [] ys n a b = b
-  seg-join t l p (x ∷ xs) ys n a b = (
+  pub seg_join : (t : List (Block C)) (l : ℕ) (p : Option ℕ) (xs ys : List (Cell C)) (n : Option ℕ) → Seg t l p xs (front_or ys n) → Seg t l (last p xs) ys n → Seg t l p (xs ++ ys) n
+  seg_join t l p [] ys n a b = b
+  seg_join t l p (x ∷ xs) ys n a b = (
     subst (λ q. Holds t x.at (block l p q x.face)) (sym (front-append xs ys n)) a.0,
-    seg-join t l (Some x.at) xs ys n a.1 b,
+    seg_join t l (Some x.at) xs ys n a.1 b,
   )
 
-  pub seg-front : (t : List (Block C)) (l : ℕ) (p : Option ℕ) (xs ys : List (Cell C)) (n : Option ℕ) → Seg t l p (xs ++ ys) n → Seg t l p xs (front_or ys n)
-  seg-front t l p [] ys n a = tt
-  seg-front t l p (x ∷ xs) ys n a = (
+  pub seg_front : (t : List (Block C)) (l : ℕ) (p : Option ℕ) (xs ys : List (Cell C)) (n : Option ℕ) → Seg t l p (xs ++ ys) n → Seg t l p xs (front_or ys n)
+  seg_front t l p [] ys n a = tt
+  seg_front t l p (x ∷ xs) ys n a = (
     subst (λ q. Holds t x.at (block l p q x.face)) (front-append xs ys n) a.0,
-    seg-front t l (Some x.at) xs ys n a.1,
+    seg_front t l (Some x.at) xs ys n a.1,
   )
 
-  pub seg-back : (t : List (Block C)) (l : ℕ) (p : Option ℕ) (xs ys : List (Cell C)) (n : Option ℕ) → Seg t l p (xs ++ ys) n → Seg t l (last p xs) ys n
-  seg-back t l p [] ys n a = a
-  seg-back t l p (x ∷ xs) ys n a = seg-back t l (Some x.at) xs ys n a.1
+  pub seg_back : (t : List (Block C)) (l : ℕ) (p : Option ℕ) (xs ys : List (Cell C)) (n : Option ℕ) → Seg t l p (xs ++ ys) n → Seg t l (last p xs) ys n
+  seg_back t l p [] ys n a = a
+  seg_back t l p (x ∷ xs) ys n a = seg_back t l (Some x.at) xs ys n a.1
 
   -- A write outside a run leaves it alone, and two lists never share a record, since a block has its list's number.
 
-  pub write-apart : (t : List (Block C)) (l : ℕ) (p : Option ℕ) (xs : List (Cell C)) (n : Option ℕ) (j : ℕ) (y : Block C) → Seg t l p xs n → Apart j xs → Seg (set t j y) l p xs n
-  write-apart t l p [] n j y s a = tt
-  write-apart t l p (x ∷ xs) n j y s a = (
+  pub write_apart : (t : List (Block C)) (l : ℕ) (p : Option ℕ) (xs : List (Cell C)) (n : Option ℕ) (j : ℕ) (y : Block C) → Seg t l p xs n → Apart j xs → Seg (set t j y) l p xs n
+  write_apart t l p [] n j y s a = tt
+  write_apart t l p (x ∷ xs) n j y s a = (
     holds_other t x.at j (block l p (front_or xs n) x.face) y s.0 a.0,
-    write-apart t l (Some x.at) xs n j y s.1 a.1,
+    write_apart t l (Some x.at) xs n j y s.1 a.1,
   )
 
-  other-list : (t : List (Block C)) (m : ℕ) (q : Option ℕ) (ys : List (Cell C)) (n : Option ℕ) (i : ℕ) (b : Block C) → Seg t m q ys n → Holds t i b → b.list ≢ m → Apart i ys
-  other-list t m q [] n i b s h ne = tt
-  other-list t m q (y ∷ ys) n i b s h ne =
+  other_list : (t : List (Block C)) (m : ℕ) (q : Option ℕ) (ys : List (Cell C)) (n : Option ℕ) (i : ℕ) (b : Block C) → Seg t m q ys n → Holds t i b → b.list ≢ m → Apart i ys
+  other_list t m q [] n i b s h ne = tt
+  other_list t m q (y ∷ ys) n i b s h ne =
       let was : Block C = block m q (front_or ys n) y.face in (
         (λ e. ne (ap (λ (z : Block C). z.list) (holds_unique t i b was h (subst (λ k. Holds t k was) e s.0)))),
-        other-list t m (Some y.at) ys n i b s.1 h ne,
+        other_list t m (Some y.at) ys n i b s.1 h ne,
       )
 
-  pub lists-apart : (t : List (Block C)) (l m : ℕ) (p q n o : Option ℕ) (xs ys : List (Cell C)) → Seg t l p xs n → Seg t m q ys o → l ≢ m → AllByRecursion (λ x. Apart x.at ys) xs
-  lists-apart t l m p q n o [] ys a b ne = tt
-  lists-apart t l m p q n o (x ∷ xs) ys a b ne = (
-    other-list t m q ys o x.at (block l p (front_or xs n) x.face) b a.0 ne,
-    lists-apart t l m (Some x.at) q n o xs ys a.1 b ne,
+  pub lists_apart : (t : List (Block C)) (l m : ℕ) (p q n o : Option ℕ) (xs ys : List (Cell C)) → Seg t l p xs n → Seg t m q ys o → l ≢ m → AllByRecursion (λ x. Apart x.at ys) xs
+  lists_apart t l m p q n o [] ys a b ne = tt
+  lists_apart t l m p q n o (x ∷ xs) ys a b ne = (
+    other_list t m q ys o x.at (block l p (front_or xs n) x.face) b a.0 ne,
+    lists_apart t l m (Some x.at) q n o xs ys a.1 b ne,
   )
 
   -- A place has one run that goes on from it to the end of the list, so no place comes twice.
 
-  path-unique : (t : List (Block C)) (l m : ℕ) (p q : Option ℕ) (xs ys : List (Cell C)) → Path t l p xs → Path t m q ys → front xs ≡ front ys → xs ≡ ys
-  path-unique t l m p q [] [] a b e = refl
-  path-unique t l m p q [] (y ∷ ys) a b e = absurd (none_some y.at e)
-  path-unique t l m p q (x ∷ xs) [] a b e = absurd (none_some x.at (sym e))
-  path-unique t l m p q (x ∷ xs) (y ∷ ys) a b e =
+  path_unique : (t : List (Block C)) (l m : ℕ) (p q : Option ℕ) (xs ys : List (Cell C)) → Path t l p xs → Path t m q ys → front xs ≡ front ys → xs ≡ ys
+  path_unique t l m p q [] [] a b e = refl
+  path_unique t l m p q [] (y ∷ ys) a b e = absurd (none_some y.at e)
+  path_unique t l m p q (x ∷ xs) [] a b e = absurd (none_some x.at (sym e))
+  path_unique t l m p q (x ∷ xs) (y ∷ ys) a b e =
       let at : x.at ≡ y.at = some_some x.at y.at e in
       let was : Block C = block l p (front xs) x.face in
       let same : was ≡ block m q (front ys) y.face =
       holds_unique t y.at was (block m q (front ys) y.face) (subst (λ z. Holds t z was) at a.0) b.0 in
       let head : x ≡ y = ap₂ cell at (ap face_of same) in
-      let tail : xs ≡ ys = path-unique t l m (Some x.at) (Some y.at) xs ys a.1 b.1 (ap (λ (z : Block C). z.right) same) in
+      let tail : xs ≡ ys = path_unique t l m (Some x.at) (Some y.at) xs ys a.1 b.1 (ap (λ (z : Block C). z.right) same) in
       ap₂ ◌∷◌ head tail
 
   apart_from : (t : List (Block C)) (l m : ℕ) (p q : Option ℕ) (x : Cell C) (xs ys : List (Cell C)) → Path t l p (x ∷ xs) → Path t m q ys → length ys ≤ length xs → Apart x.at ys
   apart_from t l m p q x xs [] a b le = tt
   apart_from t l m p q x xs (y ∷ ys) a b le = (
-    (λ e. let same : length (x ∷ xs) ≡ length (y ∷ ys) = ap length (path-unique t l m p q (x ∷ xs) (y ∷ ys) a b (ap Some (sym e))) in omega arith),
+    (λ e. let same : length (x ∷ xs) ≡ length (y ∷ ys) = ap length (path_unique t l m p q (x ∷ xs) (y ∷ ys) a b (ap Some (sym e))) in omega arith),
     apart_from t l m p (Some y.at) x xs ys a b.1 (omega arith),
   )
 
-  pub path-apart : (t : List (Block C)) (l : ℕ) (p : Option ℕ) (x : Cell C) (xs : List (Cell C)) → Path t l p (x ∷ xs) → Apart x.at xs
-  path-apart t l p x xs a = apart_from t l l p (Some x.at) x xs xs a a.1 (omega arith)
+  pub path_apart : (t : List (Block C)) (l : ℕ) (p : Option ℕ) (x : Cell C) (xs : List (Cell C)) → Path t l p (x ∷ xs) → Apart x.at xs
+  path_apart t l p x xs a = apart_from t l l p (Some x.at) x xs xs a a.1 (omega arith)
 
   -- What stands later in a path stands nowhere before.
-  pub path-avoids : (t : List (Block C)) (l : ℕ) (p : Option ℕ) (xs ys : List (Cell C)) → Path t l p (xs ++ ys) → AllByRecursion (λ y. Apart y.at xs) ys
-  path-avoids t l p xs [] a = tt
-  path-avoids t l p xs (y ∷ ys) a = (before t l p xs y ys a, skip xs y ys (path-avoids t l p (xs ++ y ∷ []) ys (subst (λ zs. Path t l p zs) (regroup xs y ys) a)))
+  pub path_avoids : (t : List (Block C)) (l : ℕ) (p : Option ℕ) (xs ys : List (Cell C)) → Path t l p (xs ++ ys) → AllByRecursion (λ y. Apart y.at xs) ys
+  path_avoids t l p xs [] a = tt
+  path_avoids t l p xs (y ∷ ys) a = (before t l p xs y ys a, skip xs y ys (path_avoids t l p (xs ++ y ∷ []) ys (subst (λ zs. Path t l p zs) (regroup xs y ys) a)))
     where
       regroup : (xs : List (Cell C)) (y : Cell C) (ys : List (Cell C)) → xs ++ y ∷ ys ≡ (xs ++ y ∷ []) ++ ys
       regroup [] y ys = refl
@@ -120,7 +120,7 @@ module _ {C : Type 0} where
       before : (t : List (Block C)) (l : ℕ) (p : Option ℕ) (xs : List (Cell C)) (y : Cell C) (ys : List (Cell C)) → Path t l p (xs ++ y ∷ ys) → Apart y.at xs
       before t l p [] y ys a = tt
       before t l p (x ∷ xs) y ys a = (
-        (λ e. (all_back (λ (c : Cell C). c.at ≢ x.at) xs (y ∷ ys) (path-apart t l p x (xs ++ y ∷ ys) a)).0 (sym e)),
+        (λ e. (all_back (λ (c : Cell C). c.at ≢ x.at) xs (y ∷ ys) (path_apart t l p x (xs ++ y ∷ ys) a)).0 (sym e)),
         before t l (Some x.at) xs y ys a.1,
       )
 

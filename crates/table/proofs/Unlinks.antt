@@ -26,36 +26,36 @@ get_or_through f (y ∷ t) (suc k) zero x lt = refl
 get_or_through f (y ∷ t) (suc k) (suc i) x lt = get_or_through f t k i x (omega arith)
 
 module _ {C : Type 0} where
-  pub clear-more : (n : ℕ) (t u : List (Block C)) (i : ℕ) (b : Block C) → n < 64 → i < length t → u ≡ map (cleared n) (take i t) ++ drop i t → b ≡ get_or u i b
+  pub clear_more : (n : ℕ) (t u : List (Block C)) (i : ℕ) (b : Block C) → n < 64 → i < length t → u ≡ map (cleared n) (take i t) ++ drop i t → b ≡ get_or u i b
       → set u i (masked ((1 * 2 ^ n) % 2 ^ 64) b) ≡ map (cleared n) (take (i + 1) t) ++ drop (i + 1) t
-  clear-more n t u i b small lt inv read =
+  clear_more n t u i b small lt inv read =
       subst (λ w. set u i (masked w b) ≡ map (cleared n) (take (i + 1) t) ++ drop (i + 1) t) (sym (one_shl n 64 small))
       (map_over_more (cleared n) t u i b lt inv read)
 
-  front-through : (n : ℕ) (cs : List (Cell C)) → front (map (cleared_cell n) cs) ≡ front cs
-  front-through n [] = refl
-  front-through n (c ∷ cs) = refl
+  front_through : (n : ℕ) (cs : List (Cell C)) → front (map (cleared_cell n) cs) ≡ front cs
+  front_through n [] = refl
+  front_through n (c ∷ cs) = refl
 
   module _ (n : ℕ) (t : List (Block C)) (k : ℕ) (u : List (Block C)) (is : u ≡ map (cleared n) (take k t) ++ drop k t) where
-    holds-through : (i : ℕ) (b : Block C) → i < k → Holds t i b → Holds u i (cleared n b)
-    holds-through i b lt h = record {
+    holds_through : (i : ℕ) (b : Block C) → i < k → Holds t i b → Holds u i (cleared n b)
+    holds_through i b lt h = record {
       within = subst (λ m. i < m) (sym (ap length is ∙ length_through (cleared n) t k)) h.within;
       is = ap (cleared n) h.is ∙ sym (get_or_through (cleared n) t k i b lt) ∙ ap (λ v. get_or v i (cleared n b)) (sym is);
     }
 
-    path-through : (l : ℕ) (p : Option ℕ) (cs : List (Cell C)) → Path t l p cs → AllByRecursion (λ c. c.at < k) cs → Path u l p (map (cleared_cell n) cs)
-    path-through l p [] s a = tt
-    path-through l p (c ∷ cs) s a = (
-      subst (λ o. Holds u c.at (block l p o (cleared_cell n c).face)) (sym (front-through n cs)) (holds-through c.at (block l p (front cs) c.face) a.0 s.0),
-      path-through l (Some c.at) cs s.1 a.1,
+    path_through : (l : ℕ) (p : Option ℕ) (cs : List (Cell C)) → Path t l p cs → AllByRecursion (λ c. c.at < k) cs → Path u l p (map (cleared_cell n) cs)
+    path_through l p [] s a = tt
+    path_through l p (c ∷ cs) s a = (
+      subst (λ o. Holds u c.at (block l p o (cleared_cell n c).face)) (sym (front_through n cs)) (holds_through c.at (block l p (front cs) c.face) a.0 s.0),
+      path_through l (Some c.at) cs s.1 a.1,
     )
 
-    clear-all : Cleared t k n u
-    clear-all = record {
+    clear_all : Cleared t k n u
+    clear_all = record {
       table = is;
-      lists = λ l start w low. stands_of u l start _ (path-through l None (cells t start) w.path low) (front-through n (cells t start) ∙ w.starts);
-      now_cells = λ l start w low. cells_of u l None start _ (path-through l None (cells t start) w.path low) (front-through n (cells t start) ∙ w.starts);
+      lists = λ l start w low. stands_of u l start _ (path_through l None (cells t start) w.path low) (front_through n (cells t start) ∙ w.starts);
+      now_cells = λ l start w low. cells_of u l None start _ (path_through l None (cells t start) w.path low) (front_through n (cells t start) ∙ w.starts);
     }
 
-  pub clear-done : (n : ℕ) (t : List (Block C)) (k i : ℕ) (u : List (Block C)) → i ≡ k → u ≡ map (cleared n) (take i t) ++ drop i t → Cleared t k n u
-  clear-done n t k i u e is = clear-all n t k u (subst (λ m. u ≡ map (cleared n) (take m t) ++ drop m t) e is)
+  pub clear_done : (n : ℕ) (t : List (Block C)) (k i : ℕ) (u : List (Block C)) → i ≡ k → u ≡ map (cleared n) (take i t) ++ drop i t → Cleared t k n u
+  clear_done n t k i u e is = clear_all n t k u (subst (λ m. u ≡ map (cleared n) (take m t) ++ drop m t) e is)

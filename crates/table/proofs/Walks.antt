@@ -5,7 +5,7 @@ use Rattle.content.specs.declared.content.Content.{Ghosts}
 use Rattle.table.specs.declared.block.Block.{Block}
 use Rattle.table.specs.Cells.{Face, Cell, cell, block, face_of, front, last, Path, cells, Stands}
 use Rattle.table.specs.Lookups.{Listed, shown, visible}
-use Rattle.table.proofs.Paths.{none_some, some_some, holds_unique, seg-back}
+use Rattle.table.proofs.Paths.{none_some, some_some, holds_unique, seg_back}
 use Rattle.table.proofs.Computed.{cells_of}
 
 -- How far a walk has come: over the cells pre, with the cells post still to come.
@@ -39,49 +39,49 @@ module _ {C : Type 0} {t : List (Block C)} {start : Option ℕ} where
     pub walk_end : cur ≡ None → cells t start ≡ w.pre
     walk_end e = w.parts ∙ ap (λ xs. w.pre ++ xs) (no_cells w.post (w.at_hand ∙ e)) ∙ append-nil w.pre
 
-    post-path : Path t w.list (last None w.pre) w.post
-    post-path = seg-back t w.list None w.pre w.post None (subst (λ xs. Path t w.list None xs) w.parts w.stands.path)
+    post_path : Path t w.list (last None w.pre) w.post
+    post_path = seg_back t w.list None w.pre w.post None (subst (λ xs. Path t w.list None xs) w.parts w.stands.path)
 
     post_is : cells t cur ≡ w.post
-    post_is = cells_of t w.list (last None w.pre) cur w.post post-path w.at_hand
+    post_is = cells_of t w.list (last None w.pre) cur w.post post_path w.at_hand
 
     module _ {i : ℕ} (e : cur ≡ Some i) where
       turn : Opened i w.post
       turn = opened i w.post (w.at_hand ∙ e)
 
-      turn-here : Path t w.list (last None w.pre) (cell i turn.face ∷ turn.rest)
-      turn-here = subst (λ xs. Path t w.list (last None w.pre) xs) turn.parts post-path
+      turn_here : Path t w.list (last None w.pre) (cell i turn.face ∷ turn.rest)
+      turn_here = subst (λ xs. Path t w.list (last None w.pre) xs) turn.parts post_path
 
-      pub walk-within : i < length t
-      walk-within = turn-here.0.within
+      pub walk_within : i < length t
+      walk_within = turn_here.0.within
 
-      pub walk-rest : List (Cell C)
-      walk-rest = turn.rest
+      pub walk_rest : List (Cell C)
+      walk_rest = turn.rest
 
       module _ {b : Block C} (read : b ≡ get_or t i b) where
-        b-is : b ≡ block w.list (last None w.pre) (front turn.rest) turn.face
-        b-is = holds_unique t i b _ (record { within = walk-within; is = read }) turn-here.0
+        b_is : b ≡ block w.list (last None w.pre) (front turn.rest) turn.face
+        b_is = holds_unique t i b _ (record { within = walk_within; is = read }) turn_here.0
 
-        pub walk-parts : cells t start ≡ w.pre ++ cell i (face_of b) ∷ walk-rest
-        unfolding walk-rest
-        walk-parts = w.parts ∙ ap (λ xs. w.pre ++ xs) turn.parts ∙ ap (λ (y : Block C). w.pre ++ cell i (face_of y) ∷ turn.rest) (sym b-is)
+        pub walk_parts : cells t start ≡ w.pre ++ cell i (face_of b) ∷ walk_rest
+        unfolding walk_rest
+        walk_parts = w.parts ∙ ap (λ xs. w.pre ++ xs) turn.parts ∙ ap (λ (y : Block C). w.pre ++ cell i (face_of y) ∷ turn.rest) (sym b_is)
 
-        pub next-parts : cells t start ≡ (w.pre ++ cell i (face_of b) ∷ []) ++ walk-rest
-        next-parts = walk-parts ∙ sym (append_assoc w.pre (cell i (face_of b) ∷ []) walk-rest)
+        pub next_parts : cells t start ≡ (w.pre ++ cell i (face_of b) ∷ []) ++ walk_rest
+        next_parts = walk_parts ∙ sym (append_assoc w.pre (cell i (face_of b) ∷ []) walk_rest)
 
-        pub next-at-hand : front walk-rest ≡ b.right
-        unfolding walk-rest
-        next-at-hand = ap (λ (y : Block C). y.right) (sym b-is)
+        pub next_at_hand : front walk_rest ≡ b.right
+        unfolding walk_rest
+        next_at_hand = ap (λ (y : Block C). y.right) (sym b_is)
 
-        abbrev pub walk-next : Walk t start b.right
-        walk-next = record { list = w.list; pre = w.pre ++ cell i (face_of b) ∷ []; post = walk-rest; stands = w.stands; parts = next-parts; at_hand = next-at-hand }
+        abbrev pub walk_next : Walk t start b.right
+        walk_next = record { list = w.list; pre = w.pre ++ cell i (face_of b) ∷ []; post = walk_rest; stands = w.stands; parts = next_parts; at_hand = next_at_hand }
 
-        pub walk-falls : length (cells t b.right) < length (cells t cur)
-        unfolding walk-rest
-        walk-falls =
+        pub walk_falls : length (cells t b.right) < length (cells t cur)
+        unfolding walk_rest
+        walk_falls =
             let here : length (cells t cur) ≡ length w.post = ap length post_is in
             let more : length w.post ≡ suc (length turn.rest) = ap length turn.parts in
-            let next : length (cells t b.right) ≡ length turn.rest = ap length (cells_of t w.list (Some i) b.right turn.rest turn-here.1 next-at-hand) in
+            let next : length (cells t b.right) ≡ length turn.rest = ap length (cells_of t w.list (Some i) b.right turn.rest turn_here.1 next_at_hand) in
             omega arith
 
 module _ {C : Type 0} (K : Ghosts C) where
@@ -89,11 +89,11 @@ module _ {C : Type 0} (K : Ghosts C) where
   visible_more [] i f = omega arith
   visible_more (x ∷ xs) i f = let e : visible K (xs ++ cell i f ∷ []) ≡ visible K xs + shown K f = visible_more xs i f in omega arith
 
-  pub shown-all : (f : Face C) → f.removed ≡ false → K.counts f.content ≡ true → shown K f ≡ K.size f.content
-  shown-all f r c = rw (r, c)
+  pub shown_all : (f : Face C) → f.removed ≡ false → K.counts f.content ≡ true → shown K f ≡ K.size f.content
+  shown_all f r c = rw (r, c)
 
-  pub shown-removed : (f : Face C) → f.removed ≡ true → shown K f ≡ 0
-  shown-removed f r = rw r
+  pub shown_removed : (f : Face C) → f.removed ≡ true → shown K f ≡ 0
+  shown_removed f r = rw r
 
-  pub shown-hidden : (f : Face C) → f.removed ≡ false → K.counts f.content ≡ false → shown K f ≡ 0
-  shown-hidden f r c = rw (r, c)
+  pub shown_hidden : (f : Face C) → f.removed ≡ false → K.counts f.content ≡ false → shown K f ≡ 0
+  shown_hidden f r c = rw (r, c)

@@ -40,9 +40,9 @@ module _ {C : Type 0} (K : Ghosts C) (kind : Lawful K) (ws : List ℕ) where
         ap₂ (λ (b : Bool) (us : List ℕ). record { first = record { client = f.id.client; clock = f.id.clock + k }; removed = f.removed; links = f.links; countable = b; units = us }) h.right_counts both.1,
       )
 
-  pub cut-law : (F : ℕ → List law.Face) (p : Plain) (l j : ℕ) (cs : List (Cell C)) (c : CutBlock K cs) → F l ≡ shown K ws cs → AllByRecursion (Good K (length ws)) cs
+  pub cut_law : (F : ℕ → List law.Face) (p : Plain) (l j : ℕ) (cs : List (Cell C)) (c : CutBlock K cs) → F l ≡ shown K ws cs → AllByRecursion (Good K (length ws)) cs
       → Law F p → Law (put l (shown K ws (pieces j c)) F) p
-  cut-law F p l j cs c here good held =
+  cut_law F p l j cs c here good held =
       let fits : K.reach c.face.content ≤ length ws = (all_at (Good K (length ws)) c.pre (cell c.place c.face) c.post (subst (λ (xs : List (Cell C)). AllByRecursion (Good K (length ws)) xs) c.parts good)).fits in
       let e = shows-pieces c.offset c.face c.low c.high fits in
       let long : length (K.units ws c.face.content) ≡ K.size c.face.content = kind.sized ws c.face.content fits in

@@ -16,8 +16,8 @@ use Rattle.table.specs.Lookups as lookups
 use Rattle.block_store.specs.Lists.{Good}
 use Rattle.block_store.specs.Gaps.{inside, EndsShown, Gapped}
 use Rattle.view.specs.View.{shows, shown}
-use Rattle.view.proofs.Views.{seen-shown, put-as-is}
-use Rattle.view.proofs.Cuts.{cut-law}
+use Rattle.view.proofs.Views.{seen-shown, put_as_is}
+use Rattle.view.proofs.Cuts.{cut_law}
 
 -- Entries that end in a visible one.
 record Lasts (es : List Entry) : Type 0 where
@@ -47,23 +47,23 @@ gap-behind es rest r =
 
 module _ {C : Type 0} (K : Ghosts C) (kind : Lawful K) (ws : List ℕ) where
   -- Cells that end in a visible block show entries that end in a visible one.
-  shown-lasts : (c : Cell C) (cs : List (Cell C)) → AllByRecursion (Good K (length ws)) (c ∷ cs) → EndsShown K (c ∷ cs) → Lasts (laid (shown K ws (c ∷ cs)))
-  shown-lasts c [] good ends =
+  shown_lasts : (c : Cell C) (cs : List (Cell C)) → AllByRecursion (Good K (length ws)) (c ∷ cs) → EndsShown K (c ∷ cs) → Lasts (laid (shown K ws (c ∷ cs)))
+  shown_lasts c [] good ends =
       let f : Face C = c.face in
       let n : length (K.units ws c.face.content) ≡ K.size c.face.content = kind.sized ws c.face.content good.0.fits in
       let some = good.0.numbered.some in
       subst Lasts (sym (append-nil (entries (shows K ws c.face)) ∙ ap₂ (λ (b d : Bool). entries_of (record { client = f.id.client; clock = f.id.clock }) b d (K.units ws f.content)) ends.1 ends.0))
       (run_lasts _ (K.units ws c.face.content) (omega arith))
-  shown-lasts c (d ∷ cs) good ends = lasts_after (entries (shows K ws c.face)) (laid (shown K ws (d ∷ cs))) (shown-lasts d cs good.1 ends)
+  shown_lasts c (d ∷ cs) good ends = lasts_after (entries (shows K ws c.face)) (laid (shown K ws (d ∷ cs))) (shown_lasts d cs good.1 ends)
 
   pub gap_is : (pre : List (Cell C)) (rest : List Entry) → AllByRecursion (Good K (length ws)) pre → EndsShown K pre → length (laid (shown K ws pre)) ≡ gap (lookups.visible K pre) (laid (shown K ws pre) ++ rest)
   gap_is [] rest good ends = refl
   gap_is (c ∷ cs) rest good ends =
-      gap-behind (laid (shown K ws (c ∷ cs))) rest (shown-lasts c cs good ends) ∙ ap (λ n. gap n (laid (shown K ws (c ∷ cs)) ++ rest)) (seen-shown K ws kind (c ∷ cs) good)
+      gap-behind (laid (shown K ws (c ∷ cs))) rest (shown_lasts c cs good ends) ∙ ap (λ n. gap n (laid (shown K ws (c ∷ cs)) ++ rest)) (seen-shown K ws kind (c ∷ cs) good)
 
   module _ (F : ℕ → List law.Face) (p : Plain) (l : ℕ) {i j : ℕ} {cs pre post : List (Cell C)} (g : Gapped K i j cs pre post) (here : F l ≡ shown K ws cs) (good : AllByRecursion (Good K (length ws)) cs) (held : Law F p) where
-    pub gapped-law : Law (put l (shown K ws (pre ++ post)) F) p
-    gapped-law = elim (cases_Bool (inside K i cs)) [
-      | inl yes' ↦ subst (λ (xs : List (Cell C)). Law (put l (shown K ws xs) F) p) (g.cut yes').1 (cut-law K kind ws F p l j cs (g.cut yes').0 here good held)
-      | inr no' ↦ put-as-is K ws F p l _ (here ∙ ap (shown K ws) (g.whole no')) held
+    pub gapped_law : Law (put l (shown K ws (pre ++ post)) F) p
+    gapped_law = elim (cases_Bool (inside K i cs)) [
+      | inl yes' ↦ subst (λ (xs : List (Cell C)). Law (put l (shown K ws xs) F) p) (g.cut yes').1 (cut_law K kind ws F p l j cs (g.cut yes').0 here good held)
+      | inr no' ↦ put_as_is K ws F p l _ (here ∙ ap (shown K ws) (g.whole no')) held
     ]

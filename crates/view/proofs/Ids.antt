@@ -22,7 +22,7 @@ use Rattle.block_store.specs.Lists.{blocks_of, Good}
 use Rattle.block_store.specs.Locates.{Nowhere}
 use Rattle.block_store.proofs.Shapes.{all_at}
 use Rattle.view.specs.View.{shows, shown, view}
-use Rattle.view.proofs.Views.{view-at, shown-append}
+use Rattle.view.proofs.Views.{view_at, shown-append}
 
 module _ {C : Type 0} (K : Ghosts C) (kind : Lawful K) (ws : List ℕ) (t : List (Block C)) (fronts : List (Option ℕ)) (id : Id)
     (good : (l : ℕ) → AllByRecursion (Good K (length ws)) (blocks_of t fronts l)) (p : Plain) (lawful : Law (view K ws t fronts) p) where
@@ -39,17 +39,17 @@ module _ {C : Type 0} (K : Ghosts C) (kind : Lawful K) (ws : List ℕ) (t : List
   lacking (c ∷ cs) (x ∷ xs) f ys g lacks e h = lacking cs xs f ys g.1 lacks.1 (let rest : shown K ws cs ≡ xs ++ f ∷ ys = cc in rest) h
 
   -- An id that no list has was never inserted.
-  pub never-inserted : Nowhere K id t fronts → p.counts id.client ≤ id.clock
-  never-inserted lacks = elim (cases_lt id.clock (p.counts id.client)) [
+  pub never_inserted : Nowhere K id t fronts → p.counts id.client ≤ id.clock
+  never_inserted lacks = elim (cases_lt id.clock (p.counts id.client)) [
     | inl lt ↦
         (let f = laws.id_found (view K ws t fronts) p (plain_id id) lawful lt in
-        absurd (lacking (blocks_of t fronts f.0) f.1 f.2 f.3 (good f.0) (lacks f.0) (sym (view-at K ws t fronts f.0 _ refl) ∙ f.4) f.5))
+        absurd (lacking (blocks_of t fronts f.0) f.1 f.2 f.3 (good f.0) (lacks f.0) (sym (view_at K ws t fronts f.0 _ refl) ∙ f.4) f.5))
     | inr le ↦ omega arith
   ]
 
   module _ (l i o : ℕ) (w : FoundAt K id (blocks_of t fronts l) i o) where
     parts : view K ws t fronts l ≡ shown K ws w.pre ++ shows K ws w.face ∷ shown K ws w.post
-    parts = view-at K ws t fronts l _ w.parts ∙ shown-append K ws w.pre (cell i w.face ∷ w.post)
+    parts = view_at K ws t fronts l _ w.parts ∙ shown-append K ws w.pre (cell i w.face ∷ w.post)
 
     in_face : In (plain_id id) (shows K ws w.face)
     in_face =
@@ -60,12 +60,12 @@ module _ {C : Type 0} (K : Ghosts C) (kind : Lawful K) (ws : List ℕ) (t : List
         (sym w.has.client, omega arith, omega arith)
 
     -- One that a list has was inserted.
-    pub was-inserted : id.clock < p.counts id.client
-    was-inserted = laws.id_counted (view K ws t fronts) p l (plain_id id) (shown K ws w.pre) (shows K ws w.face) (shown K ws w.post) lawful parts in_face
+    pub was_inserted : id.clock < p.counts id.client
+    was_inserted = laws.id_counted (view K ws t fronts) p l (plain_id id) (shown K ws w.pre) (shows K ws w.face) (shown K ws w.post) lawful parts in_face
 
     -- It stands in the plain list.
-    pub stands-there : 0 < times (plain_id id) (p.lists l)
-    stands-there =
+    pub stands_there : 0 < times (plain_id id) (p.lists l)
+    stands_there =
         let f : law.Face = shows K ws w.face in
         let e : p.lists l ≡ laid (shown K ws w.pre) ++ (entries (shows K ws w.face) ++ laid (shown K ws w.post)) = sym (lawful.holds l) ∙ ap laid parts ∙ laid-append (shown K ws w.pre) (shows K ws w.face ∷ shown K ws w.post) in
         let one : times (plain_id id) (entries (shows K ws w.face)) ≡ 1 = times_in (plain_id id) f.first f.countable f.removed f.units in_face.0 in_face.1 in_face.2 in

@@ -19,10 +19,10 @@ use Rattle.table.proofs.Paths.{all_front, all_back}
 use Rattle.block_store.specs.declared.branch.Outcome.{Outcome}
 use Rattle.block_store.specs.Lists.{blocks_of, Good}
 use Rattle.block_store.specs.Removes.{RemoveDone}
-use Rattle.block_store.proofs.Gaps.{gapped-good}
+use Rattle.block_store.proofs.Gaps.{gapped_good}
 use Rattle.view.specs.View.{shown, view}
-use Rattle.view.proofs.Views.{view-at, shown-append, seen-shown, law-changed}
-use Rattle.view.proofs.Gaps.{gapped-law}
+use Rattle.view.proofs.Views.{view_at, shown-append, seen-shown, law_changed}
+use Rattle.view.proofs.Gaps.{gapped_law}
 
 either : (c r : Bool) → cond c true r ≡ (c || r)
 either true r = refl
@@ -41,41 +41,41 @@ module _ {C : Type 0} (K : Ghosts C) (kind : Lawful K) (ws : List ℕ) where
 
   module _ (t u : List (Block C)) (fronts : List (Option ℕ)) (used limit l i n : ℕ) (o : Outcome) (d : RemoveDone K t u fronts used limit l i n o)
       (good : AllByRecursion (Good K (length ws)) (blocks_of t fronts l)) (p : Plain) (lawful : Law (view K ws t fronts) p) where
-    mid-good : AllByRecursion (Good K (length ws)) (d.upto ++ d.rest)
-    mid-good = gapped-good (length ws) kind d.after_last good
+    mid_good : AllByRecursion (Good K (length ws)) (d.upto ++ d.rest)
+    mid_good = gapped_good (length ws) kind d.after_last good
 
-    cut-good : AllByRecursion (Good K (length ws)) (d.pre ++ (d.ms ++ d.ys))
-    cut-good = gapped-good (length ws) kind d.before_first mid-good
+    cut_good : AllByRecursion (Good K (length ws)) (d.pre ++ (d.ms ++ d.ys))
+    cut_good = gapped_good (length ws) kind d.before_first mid_good
 
-    abbrev pub mid-faces : ℕ → List law.Face
-    mid-faces = put l (shown K ws (d.upto ++ d.rest)) (view K ws t fronts)
+    abbrev pub mid_faces : ℕ → List law.Face
+    mid_faces = put l (shown K ws (d.upto ++ d.rest)) (view K ws t fronts)
 
     abbrev pub cut_faces : ℕ → List law.Face
-    cut_faces = put l (shown K ws (d.pre ++ (d.ms ++ d.ys))) mid-faces
+    cut_faces = put l (shown K ws (d.pre ++ (d.ms ++ d.ys))) mid_faces
 
-    cut-law : Law cut_faces p
-    cut-law =
-        gapped-law K kind ws _ p l d.before_first (put_same l _ (view K ws t fronts)) mid-good
-        (gapped-law K kind ws (view K ws t fronts) p l d.after_last (view-at K ws t fronts l _ refl) good lawful)
+    cut_law : Law cut_faces p
+    cut_law =
+        gapped_law K kind ws _ p l d.before_first (put_same l _ (view K ws t fronts)) mid_good
+        (gapped_law K kind ws (view K ws t fronts) p l d.after_last (view_at K ws t fronts l _ refl) good lawful)
 
     removes : changes.Removes cut_faces l i n (shown K ws d.pre) (shown K ws d.ms) (shown K ws d.ys)
     removes = record {
-      parts = put_same l _ mid-faces ∙ shown-append K ws d.pre (d.ms ++ d.ys) ∙ ap (λ fs. shown K ws d.pre ++ fs) (shown-append K ws d.ms d.ys);
-      before = seen-shown K ws kind d.pre (all_front (Good K (length ws)) d.pre (d.ms ++ d.ys) cut-good) ∙ d.before_first.before;
-      reach = inl (seen-shown K ws kind d.ms (all_front (Good K (length ws)) d.ms d.ys (all_back (Good K (length ws)) d.pre (d.ms ++ d.ys) cut-good)) ∙ d.sum);
+      parts = put_same l _ mid_faces ∙ shown-append K ws d.pre (d.ms ++ d.ys) ∙ ap (λ fs. shown K ws d.pre ++ fs) (shown-append K ws d.ms d.ys);
+      before = seen-shown K ws kind d.pre (all_front (Good K (length ws)) d.pre (d.ms ++ d.ys) cut_good) ∙ d.before_first.before;
+      reach = inl (seen-shown K ws kind d.ms (all_front (Good K (length ws)) d.ms d.ys (all_back (Good K (length ws)) d.pre (d.ms ++ d.ys) cut_good)) ∙ d.sum);
     }
 
-    pub remove-law : Law (view K ws u fronts) (after p (Removed l i n))
-    remove-law =
-        law-changed K ws d.changed _ _
+    pub remove_law : Law (view K ws u fronts) (after p (Removed l i n))
+    remove_law =
+        law_changed K ws d.changed _ _
         (put_same l _ cut_faces
         ∙ sym (shown-append K ws d.pre (map (struck_cell K) d.ms ++ d.ys)
         ∙ ap (λ fs. shown K ws d.pre ++ fs) (shown-append K ws (map (struck_cell K) d.ms) d.ys ∙ ap (λ fs. fs ++ shown K ws d.ys) (shown-struck d.ms))))
-        (λ m ne. put_other l m _ cut_faces (λ q. ne (sym q)) ∙ put_other l m _ mid-faces (λ q. ne (sym q)) ∙ put_other l m _ (view K ws t fronts) (λ q. ne (sym q)))
-        (laws.remove_keeps _ p l i n (shown K ws d.pre) (shown K ws d.ms) (shown K ws d.ys) cut-law removes)
+        (λ m ne. put_other l m _ cut_faces (λ q. ne (sym q)) ∙ put_other l m _ mid_faces (λ q. ne (sym q)) ∙ put_other l m _ (view K ws t fronts) (λ q. ne (sym q)))
+        (laws.remove_keeps _ p l i n (shown K ws d.pre) (shown K ws d.ms) (shown K ws d.ys) cut_law removes)
 
     -- The answered link set is the live links that hold an entry which the removal marks.
     pub remove-links : (k : ℕ) → bit k o.links ≡ hides_any (held p l k) 0 (p.lists l) ((after p (Removed l i n)).lists l)
     remove-links k =
         ap (bit k) (d.links ∙ sym (union-shown d.ms))
-        ∙ laws.remove_answers _ p l i n (shown K ws d.pre) (shown K ws d.ms) (shown K ws d.ys) cut-law removes k
+        ∙ laws.remove_answers _ p l i n (shown K ws d.pre) (shown K ws d.ms) (shown K ws d.ys) cut_law removes k

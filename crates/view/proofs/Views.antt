@@ -14,7 +14,7 @@ use Rattle.table.specs.declared.block.Block.{Block}
 use Rattle.table.specs.Cells.{Cell}
 use Rattle.table.specs.Lookups as lookups
 use Rattle.block_store.specs.Lists.{blocks_of, Good, Changed}
-use Rattle.block_store.proofs.Shapes.{other-blocks}
+use Rattle.block_store.proofs.Shapes.{other_blocks}
 use Rattle.view.specs.View.{shows, shown, view}
 
 -- A face of as many visible units as its block.
@@ -25,9 +25,9 @@ two_tests false true n = refl
 two_tests false false n = refl
 
 module _ {C : Type 0} (K : Ghosts C) (ws : List ℕ) where
-  pub view-at : (t : List (Block C)) (fronts : List (Option ℕ)) (l : ℕ) (cs : List (Cell C)) → blocks_of t fronts l ≡ cs → view K ws t fronts l ≡ shown K ws cs
+  pub view_at : (t : List (Block C)) (fronts : List (Option ℕ)) (l : ℕ) (cs : List (Cell C)) → blocks_of t fronts l ≡ cs → view K ws t fronts l ≡ shown K ws cs
   unfolding view
-  view-at t fronts l cs e = ap (shown K ws) e
+  view_at t fronts l cs e = ap (shown K ws) e
 
   pub shown-append : (xs ys : List (Cell C)) → shown K ws (xs ++ ys) ≡ shown K ws xs ++ shown K ws ys
   shown-append [] ys = refl
@@ -44,17 +44,17 @@ module _ {C : Type 0} (K : Ghosts C) (ws : List ℕ) where
       (seen-shown kind cs good.1)
 
   -- Faces that are those of the table but for list l, and there those of the blocks that it has become.
-  pub law-changed : {t u : List (Block C)} {fronts now-fronts : List (Option ℕ)} {l : ℕ} {cs : List (Cell C)} → Changed t u fronts now-fronts l cs
+  pub law_changed : {t u : List (Block C)} {fronts now-fronts : List (Option ℕ)} {l : ℕ} {cs : List (Cell C)} → Changed t u fronts now-fronts l cs
       → (F : ℕ → List law.Face) (p : Plain) → F l ≡ shown K ws cs → ((m : ℕ) → l ≢ m → F m ≡ view K ws t fronts m) → Law F p → Law (view K ws u now-fronts) p
-  law-changed {t} {u} {fronts} {now-fronts} {l} {cs} w F p here other held = laws.same_faces F (view K ws u now-fronts) p (λ m. each m (cases_eq l m)) held
+  law_changed {t} {u} {fronts} {now-fronts} {l} {cs} w F p here other held = laws.same_faces F (view K ws u now-fronts) p (λ m. each m (cases_eq l m)) held
     where
       each : (m : ℕ) → (l ≡ m) ⊎ (l ≡ m → ⊥) → F m ≡ view K ws u now-fronts m
-      each m (inl e) = subst (λ z. F z ≡ view K ws u now-fronts z) e (here ∙ sym (view-at u now-fronts l cs w.is))
-      each m (inr ne) = other m ne ∙ view-at t fronts m _ (sym (other-blocks w m ne)) ∙ sym (view-at u now-fronts m _ refl)
+      each m (inl e) = subst (λ z. F z ≡ view K ws u now-fronts z) e (here ∙ sym (view_at u now-fronts l cs w.is))
+      each m (inr ne) = other m ne ∙ view_at t fronts m _ (sym (other_blocks w m ne)) ∙ sym (view_at u now-fronts m _ refl)
 
   -- A list that is put in the place of what it is.
-  pub put-as-is : (F : ℕ → List law.Face) (p : Plain) (l : ℕ) (fs : List law.Face) → F l ≡ fs → Law F p → Law (put l fs F) p
-  put-as-is F p l fs e held = laws.same_faces F (put l fs F) p (λ m. each m (cases_eq l m)) held
+  pub put_as_is : (F : ℕ → List law.Face) (p : Plain) (l : ℕ) (fs : List law.Face) → F l ≡ fs → Law F p → Law (put l fs F) p
+  put_as_is F p l fs e held = laws.same_faces F (put l fs F) p (λ m. each m (cases_eq l m)) held
     where
       each : (m : ℕ) → (l ≡ m) ⊎ (l ≡ m → ⊥) → F m ≡ put l fs F m
       each m (inl same) = subst (λ z. F z ≡ put l fs F z) same (e ∙ sym (put_same l fs F))

@@ -6,7 +6,7 @@ pub put_new-joined-requires : goal.put_new-joined-requires
 put_new-joined-requires g c =
     let o = c.open_gap-j.ensures.tables in
     let room : c.open_gap-j.result < c.args.limit = omega (arith, o.records, c.find_gap-gap.ensures.needs, c.if-limit-used.false) in
-    I.put-here c.requires o (c.open_gap-j.ensures.shape c.requires.words c.requires.shape) room (omega arith) c.left.result c.left.ensures
+    I.put_here c.requires o (c.open_gap-j.ensures.shape c.requires.words c.requires.shape) room (omega arith) c.left.result c.left.ensures
 
 pub returns : goal.returns
 returns g c =
@@ -14,8 +14,8 @@ returns g c =
     let shape = c.open_gap-j.ensures.shape c.requires.words c.requires.shape in
     let room : c.open_gap-j.result < c.args.limit = omega (arith, o.records, c.find_gap-gap.ensures.needs, c.if-limit-used.false) in
     let long : length c.open_gap-j.new.blocks ≡ length c.args.blocks.now = omega arith in
-    let b = c.put_new-joined.ensures (I.put-here c.requires o shape room long c.left.result c.left.ensures) in
+    let b = c.put_new-joined.ensures (I.put_here c.requires o shape room long c.left.result c.left.ensures) in
     record {
       tables = I.inserted c.requires o shape room long b;
-      shape = λ n s fits. I.inserted-shape c.requires o shape room long b n (c.open_gap-j.ensures.shape n s) fits (omega arith);
+      shape = λ n s fits. I.inserted_shape c.requires o shape room long b n (c.open_gap-j.ensures.shape n s) fits (omega arith);
     }

@@ -19,13 +19,13 @@ open_gap-k-requires g c =
 pub left_edge-edge-requires : goal.left_edge-edge-requires
 left_edge-edge-requires g c =
     let s1 = c.open_gap-j.ensures.shape c.requires.words c.requires.shape in
-    R.edge-gap g.C.Content (laws g) c.requires c.open_gap-j.ensures.tables s1 c.open_gap-k.ensures.tables (c.open_gap-k.ensures.shape c.requires.words s1) c.left.result c.left.ensures
+    R.edge_gap g.C.Content (laws g) c.requires c.open_gap-j.ensures.tables s1 c.open_gap-k.ensures.tables (c.open_gap-k.ensures.shape c.requires.words s1) c.left.result c.left.ensures
 
 pub strike-links-requires : goal.strike-links-requires
 strike-links-requires g c =
     let s1 = c.open_gap-j.ensures.shape c.requires.words c.requires.shape in
     let s2 = c.open_gap-k.ensures.shape c.requires.words s1 in
-    let e = R.edge-gap g.C.Content (laws g) c.requires c.open_gap-j.ensures.tables s1 c.open_gap-k.ensures.tables s2 c.left.result c.left.ensures in
+    let e = R.edge_gap g.C.Content (laws g) c.requires c.open_gap-j.ensures.tables s1 c.open_gap-k.ensures.tables s2 c.left.result c.left.ensures in
     R.strikable g.C.Content (laws g) c.requires c.open_gap-j.ensures.tables s1 c.open_gap-k.ensures.tables s2 c.left_edge-edge.result (c.left_edge-edge.ensures e)
 
 pub returns : goal.returns
@@ -34,9 +34,9 @@ returns g c =
     let b = c.open_gap-k.ensures.tables in
     let s1 = c.open_gap-j.ensures.shape c.requires.words c.requires.shape in
     let s2 = c.open_gap-k.ensures.shape c.requires.words s1 in
-    let le = c.left_edge-edge.ensures (R.edge-gap g.C.Content (laws g) c.requires a s1 b s2 c.left.result c.left.ensures) in
+    let le = c.left_edge-edge.ensures (R.edge_gap g.C.Content (laws g) c.requires a s1 b s2 c.left.result c.left.ensures) in
     let st = c.strike-links.ensures (R.strikable g.C.Content (laws g) c.requires a s1 b s2 c.left_edge-edge.result le) in
     record {
-      tables = R.removed g.C.Content (laws g) c.requires a s1 b s2 le st (R.in-limit g.C.Content (laws g) c.requires a s1 b s2 c.find_gap-first.result c.find_gap-first.ensures.needs c.find_gap-last.ensures.needs (let h = c.if-limit-used.false in let e = c.requires.enough in omega arith));
-      shape = λ m s. R.removed-shape g.C.Content (laws g) c.requires a s1 b s2 le st m (c.open_gap-k.ensures.shape m (c.open_gap-j.ensures.shape m s)) (omega arith);
+      tables = R.removed g.C.Content (laws g) c.requires a s1 b s2 le st (R.in_limit g.C.Content (laws g) c.requires a s1 b s2 c.find_gap-first.result c.find_gap-first.ensures.needs c.find_gap-last.ensures.needs (let h = c.if-limit-used.false in let e = c.requires.enough in omega arith));
+      shape = λ m s. R.removed_shape g.C.Content (laws g) c.requires a s1 b s2 le st m (c.open_gap-k.ensures.shape m (c.open_gap-j.ensures.shape m s)) (omega arith);
     }

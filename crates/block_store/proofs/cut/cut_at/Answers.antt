@@ -20,7 +20,7 @@ returns-then-used-limit g c =
     let low : 0 < c.in-Some.o = (let ne = c.if-o-eq0.false in omega arith) in
     let at = c.in-Some.ensures in
     let room : c.args.used < length c.args.blocks.now = omega (arith, c.if-used-limit.true, c.requires.fits) in
-    let changed = S.cut-changed c.requires.shape.shape at.list (found_cut at.found low) room (c.split.ensures (S.cuttable c.requires.shape.shape at.list (found_cut at.found low) room)) in
+    let changed = S.cut_changed c.requires.shape.shape at.list (found_cut at.found low) room (c.split.ensures (S.cuttable c.requires.shape.shape at.list (found_cut at.found low) room)) in
     let one : cut_needs c.in-Some.o ≡ 1 = grind (arith, nat_tests) in
     record {
       tables = record {
@@ -32,5 +32,5 @@ returns-then-used-limit g c =
         unchanged = λ e. absurd (omega arith);
         changed = λ low'. changed;
       };
-      shape = λ n s. S.cut-shape s at.list (found_cut at.found low) (laws g) at.known room (omega arith) changed;
+      shape = λ n s. S.cut_shape s at.list (found_cut at.found low) (laws g) at.known room (omega arith) changed;
     }

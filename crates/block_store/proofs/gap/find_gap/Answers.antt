@@ -23,7 +23,7 @@ pub returns-then-o-len : goal.returns-then-o-len
 returns-then-o-len g c =
     let q = c.in-After.ensures in
     let same : c.index-blocks-i.result.content ≡ q.face.content =
-    G.cell-content c.args.blocks.now c.args.l (front_of c.args.fronts.now c.args.l) (c.requires.shape.shape.stands c.args.l)
+    G.cell_content c.args.blocks.now c.args.l (front_of c.args.fronts.now c.args.l) (c.requires.shape.shape.stands c.args.l)
     q.pre c.in-After.i q.face q.post q.parts c.index-blocks-i.result c.index-blocks-i.is in
     let size : c.len.result ≡ g.C.Content.size q.face.content = c.len.ensures ∙ ap g.C.Content.size same in
     let way = c.if-o-len.true in
@@ -33,11 +33,11 @@ pub returns-else-o-len : goal.returns-else-o-len
 returns-else-o-len g c =
     let q = c.in-After.ensures in
     let same : c.index-blocks-i.result.content ≡ q.face.content =
-    G.cell-content c.args.blocks.now c.args.l (front_of c.args.fronts.now c.args.l) (c.requires.shape.shape.stands c.args.l)
+    G.cell_content c.args.blocks.now c.args.l (front_of c.args.fronts.now c.args.l) (c.requires.shape.shape.stands c.args.l)
     q.pre c.in-After.i q.face q.post q.parts c.index-blocks-i.result c.index-blocks-i.is in
     let size : c.len.result ≡ g.C.Content.size q.face.content = c.len.ensures ∙ ap g.C.Content.size same in
     let way = c.if-o-len.false in
     G.gap_after g.C.Content c.args.index _ _ c.in-After.i c.in-After.o refl q (grind (arith, nat_tests))
 
 pub returns-in_default : goal.returns-in_default
-returns-in_default g c = G.gap-rest g.C.Content c.args.index _ _ c.in_default.not-After refl c.seek-place.ensures
+returns-in_default g c = G.gap_rest g.C.Content c.args.index _ _ c.in_default.not-After refl c.seek-place.ensures

@@ -11,15 +11,15 @@ pub split-requires : goal.split-requires
 split-requires g c = G.ready c.requires c.in-After.i c.in-After.o c.in-After.is c.if-gap-eq0.false
 
 pub returns-then-gap-eq0 : goal.returns-then-gap-eq0
-returns-then-gap-eq0 g c = record { tables = G.opened-edge c.requires c.in-After.i c.in-After.o c.in-After.is c.if-gap-eq0.true; shape = λ n s. s }
+returns-then-gap-eq0 g c = record { tables = G.opened_edge c.requires c.in-After.i c.in-After.o c.in-After.is c.if-gap-eq0.true; shape = λ n s. s }
 
 pub returns-else-gap-eq0 : goal.returns-else-gap-eq0
 returns-else-gap-eq0 g c =
     let cut = c.split.ensures (G.ready c.requires c.in-After.i c.in-After.o c.in-After.is c.if-gap-eq0.false) in
     record {
       tables = G.opened_inside c.requires c.in-After.i c.in-After.o c.in-After.is c.if-gap-eq0.false (laws g) c.split.new.blocks cut;
-      shape = G.opened-shape c.requires c.in-After.i c.in-After.o c.in-After.is c.if-gap-eq0.false (laws g) c.split.new.blocks cut (omega arith);
+      shape = G.opened_shape c.requires c.in-After.i c.in-After.o c.in-After.is c.if-gap-eq0.false (laws g) c.split.new.blocks cut (omega arith);
     }
 
 pub returns-in_default : goal.returns-in_default
-returns-in_default g c = record { tables = G.opened-rest c.requires c.in_default.not-After; shape = λ n s. s }
+returns-in_default g c = record { tables = G.opened_rest c.requires c.in_default.not-After; shape = λ n s. s }

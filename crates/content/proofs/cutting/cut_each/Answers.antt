@@ -1,6 +1,6 @@
 use Rattle.std.proofs.Common.{◌≡◌, ℕ, ◌<◌, length, refl, subst, add-zero, arith}
 use Rattle.content.specs.Lawful.{Lawful}
-use Rattle.content.proofs.Joining.{Cutting, next, more, all-cut}
+use Rattle.content.proofs.Joining.{Cutting, next, more, all_cut}
 use Rattle.content.proofs.cutting.cut_each.Goals as goal
 
 pub loop-i-init : goal.loop-i-init
@@ -33,4 +33,4 @@ returns g c =
     let ks = c.args.offsets.now in
     let n : c.loop-i.i ≡ length ks = omega arith in
     let w = subst (λ (i : ℕ). Cutting g.C.Content c.args.content.now ks i c.loop-i.rest c.loop-i.done c.loop-i.pieces) n c.loop-i.invariant in
-    all-cut g.C.Content c.args.content.now ks (length ks) c.loop-i.rest c.loop-i.done c.loop-i.pieces w (omega arith) (omega arith)
+    all_cut g.C.Content c.args.content.now ks (length ks) c.loop-i.rest c.loop-i.done c.loop-i.pieces w (omega arith) (omega arith)

@@ -2,7 +2,7 @@ use Rattle.std.proofs.Common.{◌≡◌, ◌+◌, true, eqb, length, sym, eq-eqb
 use Rattle.std.proofs.lemmas.Bool.{and_from}
 use Rattle.content.specs.Lawful.{Lawful}
 use Rattle.content.specs.Pieces.{rising}
-use Rattle.content.proofs.Joining.{all-sized, all_whole}
+use Rattle.content.proofs.Joining.{all_sized, all_whole}
 use Rattle.content.proofs.cutting.cut_into_pieces.Goals as goal
 
 pub returns : goal.returns
@@ -20,6 +20,6 @@ returns g c =
     record {
       answer = sym (and_from (rising 0 ks n) (eqb room (length ks + 1)) up (eq-eqb room (length ks + 1) c.if-pieces-offsets.false));
       written = c.cut_each.ensures;
-      sized = λ _. all-sized K laws x ks up ps c.cut_each.ensures;
+      sized = λ _. all_sized K laws x ks up ps c.cut_each.ensures;
       whole = λ _. all_whole K laws x ks up ps c.cut_each.ensures;
     }

@@ -7,7 +7,7 @@ use Rattle.marking.proofs.strike.strike.Goals as goal
 use Rattle.marking.proofs.strike.strike.Goals.{else-not-b-via-then-not-b+else-countable, else-not-b-via-else-not-b}
 
 pub loop-cur-init : goal.loop-cur-init
-loop-cur-init g c = λ w. S.strike-start w
+loop-cur-init g c = λ w. S.strike_start w
 
 pub returns-then-left-eq0 : goal.returns-then-left-eq0
 returns-then-left-eq0 g c = λ w. S.strike-done w (c.loop-cur.invariant w) c.if-left-eq0.true
@@ -20,7 +20,7 @@ offset_bounds-blocks-i g c = let lt : c.in-Some.i < length c.args.blocks.now = o
 
 pub overflow_sub-left : goal.overflow_sub-left
 overflow_sub-left g c =
-    let le = S.strike-enough c.requires (c.loop-cur.invariant c.requires) c.in-Some.is (omega arith) c.index-blocks-i.is c.if-not-b.true (sym c.countable.ensures ∙ c.if-countable.true) in
+    let le = S.strike_enough c.requires (c.loop-cur.invariant c.requires) c.in-Some.is (omega arith) c.index-blocks-i.is c.if-not-b.true (sym c.countable.ensures ∙ c.if-countable.true) in
     omega arith
 
 pub bounds-blocks-i-then-countable : goal.bounds-blocks-i-then-countable
@@ -31,7 +31,7 @@ offset_bounds-blocks-i-then-countable g c = let lt : c.in-Some.i < length c.args
 
 pub loop-cur-smaller-then-countable : goal.loop-cur-smaller-then-countable
 loop-cur-smaller-then-countable g c =
-    S.strike-mark-falls c.requires (c.loop-cur.invariant c.requires) c.in-Some.is (omega arith) c.index-blocks-i.is c.if-not-b.true (sym c.countable.ensures ∙ c.if-countable.true)
+    S.strike_mark_falls c.requires (c.loop-cur.invariant c.requires) c.in-Some.is (omega arith) c.index-blocks-i.is c.if-not-b.true (sym c.countable.ensures ∙ c.if-countable.true)
 
 pub loop-cur-preserved-then-countable : goal.loop-cur-preserved-then-countable
 loop-cur-preserved-then-countable g c = λ w.
@@ -47,10 +47,10 @@ unseen g c =
     ]
 
 pub loop-cur-smaller : goal.loop-cur-smaller
-loop-cur-smaller g c = S.strike-pass-falls c.requires (c.loop-cur.invariant c.requires) c.in-Some.is (omega arith) c.index-blocks-i.is (unseen g c)
+loop-cur-smaller g c = S.strike_pass_falls c.requires (c.loop-cur.invariant c.requires) c.in-Some.is (omega arith) c.index-blocks-i.is (unseen g c)
 
 pub loop-cur-preserved : goal.loop-cur-preserved
-loop-cur-preserved g c = λ w. S.strike-pass w (c.loop-cur.invariant w) c.in-Some.is (omega arith) c.index-blocks-i.is (unseen g c)
+loop-cur-preserved g c = λ w. S.strike_pass w (c.loop-cur.invariant w) c.in-Some.is (omega arith) c.index-blocks-i.is (unseen g c)
 
 pub returns : goal.returns
-returns g c = λ w. S.strike-end w (c.loop-cur.invariant w) c.in_default.is
+returns g c = λ w. S.strike_end w (c.loop-cur.invariant w) c.in_default.is

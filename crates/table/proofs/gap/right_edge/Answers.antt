@@ -4,7 +4,7 @@ use Rattle.table.proofs.Edges as E
 use Rattle.table.proofs.gap.right_edge.Goals as goal
 
 pub returns-in-None : goal.returns-in-None
-returns-in-None g c = E.right-none c.args.blocks.now c.args.right c.in-None.is
+returns-in-None g c = E.right_none c.args.blocks.now c.args.right c.in-None.is
 
 pub offset_bounds-blocks-i : goal.offset_bounds-blocks-i
 offset_bounds-blocks-i g c = let lt : c.in-Some.i < length c.args.blocks.now = subst (λ o. Within c.args.blocks.now o) c.in-Some.is c.requires in search rules
@@ -14,4 +14,4 @@ bounds-blocks-i g c = subst (λ o. Within c.args.blocks.now o) c.in-Some.is c.re
 
 pub returns-in-Some : goal.returns-in-Some
 returns-in-Some g c =
-    E.right-some c.args.blocks.now c.args.right c.in-Some.i c.index-blocks-i.result c.in-Some.is (subst (λ o. Within c.args.blocks.now o) c.in-Some.is c.requires) c.index-blocks-i.is
+    E.right_some c.args.blocks.now c.args.right c.in-Some.i c.index-blocks-i.result c.in-Some.is (subst (λ o. Within c.args.blocks.now o) c.in-Some.is c.requires) c.index-blocks-i.is

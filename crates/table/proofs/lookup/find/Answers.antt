@@ -10,10 +10,10 @@ pub loop-cur-init : goal.loop-cur-init
 loop-cur-init g c = (W.walk_start c.requires, tt)
 
 pub offset_bounds-blocks-i : goal.offset_bounds-blocks-i
-offset_bounds-blocks-i g c = let lt : c.in-Some.i < length c.args.blocks.now = W.walk-within c.loop-cur.invariant.0 c.in-Some.is in omega arith
+offset_bounds-blocks-i g c = let lt : c.in-Some.i < length c.args.blocks.now = W.walk_within c.loop-cur.invariant.0 c.in-Some.is in omega arith
 
 pub bounds-blocks-i : goal.bounds-blocks-i
-bounds-blocks-i g c = W.walk-within c.loop-cur.invariant.0 c.in-Some.is
+bounds-blocks-i g c = W.walk_within c.loop-cur.invariant.0 c.in-Some.is
 
 pub returns-then-id-b : goal.returns-then-id-b
 returns-then-id-b g c =
@@ -21,14 +21,14 @@ returns-then-id-b g c =
     record {
       pre = c.loop-cur.invariant.0.pre;
       face = face_of c.index-blocks-i.result;
-      post = W.walk-rest c.loop-cur.invariant.0 c.in-Some.is;
-      parts = W.walk-parts c.loop-cur.invariant.0 c.in-Some.is c.index-blocks-i.is;
+      post = W.walk_rest c.loop-cur.invariant.0 c.in-Some.is;
+      parts = W.walk_parts c.loop-cur.invariant.0 c.in-Some.is c.index-blocks-i.is;
       has = record { client = search rules; clock = omega arith; inside = let lt = c.if-id-b.true in omega arith };
       first = c.loop-cur.invariant.1;
     }
 
 pub loop-cur-smaller : goal.loop-cur-smaller
-loop-cur-smaller g c = W.walk-falls c.loop-cur.invariant.0 c.in-Some.is c.index-blocks-i.is
+loop-cur-smaller g c = W.walk_falls c.loop-cur.invariant.0 c.in-Some.is c.index-blocks-i.is
 
 passed : (g : _) (c : goal.Joined-else-b-id g) (o : ℕ) → Has g.C.Content c.args.id (face_of c.index-blocks-i.result) o → ⊥
 passed g c o h =
@@ -40,7 +40,7 @@ passed g c o h =
 
 pub loop-cur-preserved : goal.loop-cur-preserved
 loop-cur-preserved g c = (
-  W.walk-next c.loop-cur.invariant.0 c.in-Some.is c.index-blocks-i.is,
+  W.walk_next c.loop-cur.invariant.0 c.in-Some.is c.index-blocks-i.is,
   All-push (λ (x : Cell g.row.C.Denot). (o : ℕ) → Has g.C.Content c.args.id x.face o → ⊥) c.loop-cur.invariant.0.pre (cell c.in-Some.i (face_of c.index-blocks-i.result)) c.loop-cur.invariant.1 (passed g c),
 )
 

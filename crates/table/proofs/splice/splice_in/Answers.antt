@@ -4,19 +4,19 @@ use Rattle.table.proofs.Splices as S
 use Rattle.table.proofs.splice.splice_in.Goals as goal
 
 pub offset_bounds-blocks-i : goal.offset_bounds-blocks-i
-offset_bounds-blocks-i g c = let lt : c.in-Some.i < length c.args.blocks.now = S.i-within c.requires c.in-Some.is in search rules
+offset_bounds-blocks-i g c = let lt : c.in-Some.i < length c.args.blocks.now = S.i_within c.requires c.in-Some.is in search rules
 
 pub bounds-blocks-i : goal.bounds-blocks-i
-bounds-blocks-i g c = S.i-within c.requires c.in-Some.is
+bounds-blocks-i g c = S.i_within c.requires c.in-Some.is
 
 pub offset_bounds-blocks-i-in-Some : goal.offset_bounds-blocks-i-in-Some
-offset_bounds-blocks-i-in-Some g c = let lt : c.in-Some.i < length c.args.blocks.now = S.i-within c.requires c.in-Some.is in search rules
+offset_bounds-blocks-i-in-Some g c = let lt : c.in-Some.i < length c.args.blocks.now = S.i_within c.requires c.in-Some.is in search rules
 
 pub bounds-blocks-i-in-Some : goal.bounds-blocks-i-in-Some
-bounds-blocks-i-in-Some g c = simp length-set (S.i-within c.requires c.in-Some.is)
+bounds-blocks-i-in-Some g c = simp length-set (S.i_within c.requires c.in-Some.is)
 
 pub relink-requires : goal.relink-requires
-relink-requires g c = within_all c.args.blocks.now _ c.args.front.now (simp length-set) (S.first-within c.requires c.in-None.is)
+relink-requires g c = within_all c.args.blocks.now _ c.args.front.now (simp length-set) (S.first_within c.requires c.in-None.is)
 
 pub relink-requires-in-Some : goal.relink-requires-in-Some
 relink-requires-in-Some g c = within_all c.args.blocks.now _ c.index-blocks-i.result.right (simp length-set) (S.next-within c.requires c.in-Some.is c.index-blocks-i.is)

@@ -4,10 +4,10 @@ use Rattle.table.proofs.Splits as S
 use Rattle.table.proofs.splice.split.Goals as goal
 
 pub offset_bounds-blocks-i : goal.offset_bounds-blocks-i
-offset_bounds-blocks-i g c = let lt : c.args.i < length c.args.blocks.now = S.i-within c.requires in search rules
+offset_bounds-blocks-i g c = let lt : c.args.i < length c.args.blocks.now = S.i_within c.requires in search rules
 
 pub bounds-blocks-i : goal.bounds-blocks-i
-bounds-blocks-i g c = S.i-within c.requires
+bounds-blocks-i g c = S.i_within c.requires
 
 pub cut-fore-requires : goal.cut-fore-requires
 cut-fore-requires g c = record { positive = c.requires.some_left; below = S.below c.requires c.index-blocks-i.is }
@@ -19,10 +19,10 @@ pub overflow_add-blocks-2 : goal.overflow_add-blocks-2
 overflow_add-blocks-2 g c = let lt : c.index-blocks-i.result.id.clock + c.args.k < 2 ^ 32 = S.clocked c.requires c.index-blocks-i.is in search rules
 
 pub offset_bounds-blocks-i-2 : goal.offset_bounds-blocks-i-2
-offset_bounds-blocks-i-2 g c = let lt : c.args.i < length c.args.blocks.now = S.i-within c.requires in search rules
+offset_bounds-blocks-i-2 g c = let lt : c.args.i < length c.args.blocks.now = S.i_within c.requires in search rules
 
 pub bounds-blocks-i-2 : goal.bounds-blocks-i-2
-bounds-blocks-i-2 g c = simp length-set (S.i-within c.requires)
+bounds-blocks-i-2 g c = simp length-set (S.i_within c.requires)
 
 pub relink-requires : goal.relink-requires
 relink-requires g c = within_all c.args.blocks.now _ c.index-blocks-i.result.right (simp length-set) (S.next-within c.requires c.index-blocks-i.is)

@@ -2,7 +2,7 @@ use Rattle.std.proofs.Common.{◌≡◌, ◌+◌, ◌≤◌, false, length, take
 use Rattle.std.proofs.lemmas.List.{length-take-le}
 use Rattle.content.specs.Runs.{run, word_at}
 use Rattle.content.specs.RunsLemmas.{reach_here}
-use Rattle.making.proofs.Appending.{accepted, used_after, length-used-after, appended-keeps}
+use Rattle.making.proofs.Appending.{accepted, used_after, length_used_after, appended_keeps}
 use Rattle.making.proofs.Units.{words_back}
 use Rattle.making.proofs.kinds.ClipRunMakeRefSliceU64.make.Goals as goal
 
@@ -16,10 +16,10 @@ returns c =
     let is = c.in_ok-judge.ensures in
     let room = accepted n false n (length ws) used is in
     let le : used ≤ length ws = omega arith in
-    let long : length (take (used + n) after) ≡ used + n = ap (λ t. length (take (used + n) t)) c.append.ensures ∙ length-used-after ws us used le in
+    let long : length (take (used + n) after) ≡ used + n = ap (λ t. length (take (used + n) t)) c.append.ensures ∙ length_used_after ws us used le in
     record {
       answer = is;
-      kept = ap (take used) c.append.ensures ∙ appended-keeps ws us used le;
+      kept = ap (take used) c.append.ensures ∙ appended_keeps ws us used le;
       leaves = record {
         words = c.append.ensures;
         used_is = refl;

@@ -5,8 +5,8 @@ use Rattle.content.specs.Runs.{run, code_unit}
 use Rattle.content.specs.RunsLemmas.{reach_here}
 use Rattle.making.specs.Packed.{packed, words_of}
 use Rattle.making.specs.Verdicts.{verdict}
-use Rattle.making.proofs.Appending.{accepted, used_after, length-used-after, appended-keeps}
-use Rattle.making.proofs.Units.{length-packed, text-back}
+use Rattle.making.proofs.Appending.{accepted, used_after, length_used_after, appended_keeps}
+use Rattle.making.proofs.Units.{length-packed, text_back}
 use Rattle.making.proofs.kinds.TextRunMakeRefSliceU16.make.Goals as goal
 
 pub returns-in_err-judge : goal.returns-in_err-judge
@@ -31,10 +31,10 @@ returns c =
     let size : length more ≡ m = length-packed us in
     let table = c.pack.ensures in
     let front : take (used + m) after ≡ take (used + length more) after = ap (λ k. take (used + k) after) (sym size) in
-    let long : length (take (used + m) after) ≡ used + length more = ap length front ∙ ap (λ t. length (take (used + length more) t)) table ∙ length-used-after ws more used le in
+    let long : length (take (used + m) after) ≡ used + length more = ap length front ∙ ap (λ t. length (take (used + length more) t)) table ∙ length_used_after ws more used le in
     record {
       answer = is ∙ ap₂ (λ b k. verdict n b k (length ws) used) c.has_surrogate.ensures (sym size);
-      kept = ap (take used) table ∙ appended-keeps ws more used le;
+      kept = ap (take used) table ∙ appended_keeps ws more used le;
       leaves = record {
         words = table;
         used_is = ap (λ k. used + k) (sym size);
@@ -42,6 +42,6 @@ returns c =
         fits = reach_here (4 * used) (4 * used + n) ((4 * used + n - 1) / 4 + 1) (length (take (used + m) after)) (omega arith) (omega arith);
         listing =
             ap (λ t. run (code_unit t) (4 * used) (4 * used + n)) (front ∙ ap (take (used + length more)) table ∙ used_after ws more used le)
-            ∙ text-back us (λ i. let f = c.type_inv.recipe i in omega arith) (take used ws) used (length-take-le used ws le);
+            ∙ text_back us (λ i. let f = c.type_inv.recipe i in omega arith) (take used ws) used (length-take-le used ws le);
       };
     }
