@@ -5,7 +5,7 @@ use crate::id::Id;
 use crate::sticky_index::{Assoc, IndexScope, StickyIndex};
 
 /// The scopes of a start and an end. Where both are open, both are nested or both are roots: no other pair can be written.
-#[derive(Clone, Copy)]
+#[derive(Clone, Copy, PartialEq, Eq, Debug)]
 enum Scopes<'a> {
     Anchored(Id, Id),
     NestedStart(Id, Id),
@@ -17,7 +17,7 @@ enum Scopes<'a> {
 }
 
 /// What a link quotes: all that stands between a start and an end.
-#[derive(Clone, Copy)]
+#[derive(Clone, Copy, PartialEq, Eq, Debug)]
 pub struct LinkSource<'a> {
     scopes: Scopes<'a>,
     start_assoc: Assoc,
