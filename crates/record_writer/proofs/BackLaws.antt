@@ -1,9 +1,10 @@
-use Rattle.std.proofs.Common.{◌≡◌, ℕ, ◌+◌, ◌*◌, ◌/◌, ◌%◌, ◌<◌, ◌≤◌, Bool, true, false, not, ◌||◌, eqb, List, ◌++◌, length, take, drop, Ok, sym, refl, ap, ◌∙◌, subst, arith}
-use Rattle.std.proofs.lemmas.List.{drop_at, length-take-le}
+use Rattle.std.proofs.Common.{◌≡◌, ℕ, ◌+◌, ◌*◌, ◌/◌, ◌%◌, ◌^◌, ◌<◌, ◌≤◌, Bool, true, false, not, ◌||◌, eqb, List, ◌++◌, length, take, drop, Ok, sym, refl, ap, ◌∙◌, subst, arith}
+use Rattle.std.proofs.lemmas.List.{drop_at, length-take-le, length-append}
 use Rattle.std.proofs.lemmas.Bool.{ltb-true, eqb-true, and_parts, both_ways}
 use Rattle.leb128.specs.declared.field.NumberField.TheVariants.{Client, Clock}
 use Rattle.leb128.specs.Fields.{limit}
-use Rattle.source.specs.Meaning.{Scope, relative, nested, root, Side, alike}
+use Rattle.source.specs.declared.sticky_index.StickyIndex.{StickyIndex}
+use Rattle.source.specs.Meaning.{Scope, relative, nested, root, Side, alike, scope_of, side_of}
 use Rattle.leb128.specs.Leb128.{uleb}
 use Rattle.leb128.specs.Buffers.{written}
 use Rattle.record.specs.Format.{scope_bytes, is_open, by_name, single, bit, has_flag, flags, end_bytes, record_of}
@@ -18,8 +19,15 @@ use Rattle.record.proofs.FormLaws.{complete}
 -- The writer's bytes are a form of its source's record.
 
 -- What the writer's tests and the clock's type say of a scope.
-abbrev pub Fine : Scope → Type 0
-Fine s = (names_fine s ≡ true) × (clients_fine s ≡ true) × (clocks_fine s ≡ true)
+pub record Fine (s : Scope) : Type 0 where
+  pub name : names_fine s ≡ true
+  pub client : clients_fine s ≡ true
+  pub clock : clocks_fine s ≡ true
+
+-- It is told of a side's own scope, and meant of what the scope stands for.
+pub fine_as : (i : StickyIndex) (s : Side) → side_of i ≡ s → names_fine (scope_of i.scope) ≡ true
+    → (clients_fine (scope_of i.scope) ≡ true) × (clocks_fine (scope_of i.scope) ≡ true) → Fine s.0
+fine_as i s e n c = subst (λ x. Fine x.0) e (record { name = n; client = c.0; clock = c.1 })
 
 clock_own : (k : ℕ) → k < limit Clock → NumberForm Clock (uleb k) k
 clock_own k h = (form-uleb k, length-uleb 4 k (omega arith), sum-uleb k, h)
@@ -28,11 +36,29 @@ client_own : (c : ℕ) → c < limit Client → NumberForm Client (uleb c) c
 client_own c h = (form-uleb c, length-uleb 9 c (omega arith), sum-uleb c, h)
 
 scope_own : (s : Scope) → Fine s → ScopeForm (scope_bytes s) s
-scope_own (relative c k) f = (uleb c, uleb k, refl, client_own c (ltb-true c (limit Client) f.1), clock_own k (ltb-true k (limit Clock) f.2))
-scope_own (nested c k) f = (uleb c, uleb k, refl, client_own c (ltb-true c (limit Client) f.1), clock_own k (ltb-true k (limit Clock) f.2))
+scope_own (relative c k) f = (uleb c, uleb k, refl, client_own c (ltb-true c (limit Client) f.client), clock_own k (ltb-true k (limit Clock) f.clock))
+scope_own (nested c k) f = (uleb c, uleb k, refl, client_own c (ltb-true c (limit Client) f.client), clock_own k (ltb-true k (limit Clock) f.clock))
 scope_own (root n) f =
-    let h = count_parts (length n) (and_parts (name_count (length n)) (all_printable n) f.0).0 in
-    (uleb (length n), refl, clock_own (length n) (omega (arith, h.1)), f.0)
+    let h = count_parts (length n) (and_parts (name_count (length n)) (all_printable n) f.name).0 in
+    (uleb (length n), refl, clock_own (length n) (omega (arith, h.1)), f.name)
+
+-- A scope takes at most 42 bytes, and a record at most two scopes and two bytes more.
+scope_short : (s : Scope) → Fine s → length (scope_bytes s) ≤ 42
+scope_short (relative c k) f =
+    simp length-append (omega (arith, (client_own c (ltb-true c (limit Client) f.client)).1, (clock_own k (ltb-true k (limit Clock) f.clock)).1))
+scope_short (nested c k) f =
+    simp length-append (omega (arith, (client_own c (ltb-true c (limit Client) f.client)).1, (clock_own k (ltb-true k (limit Clock) f.clock)).1))
+scope_short (root n) f =
+    let h = count_parts (length n) (and_parts (name_count (length n)) (all_printable n) f.name).0 in
+    simp length-append (omega (arith, h.1, (clock_own (length n) (omega (arith, h.1))).1))
+
+end_short : (x : Bool) (s : Scope) → Fine s → length (end_bytes x s) ≤ 42
+end_short true s f = omega arith
+end_short false s f = scope_short s f
+
+pub record_short : (s e : Side) → Fine s.0 → Fine e.0 → length (record_of s e) < 2 ^ 64
+record_short s e f g =
+    simp length-append (omega (arith, scope_short s.0 f, end_short (single s.0 e.0) e.0 g))
 
 anchors_own : (c k d l : ℕ) (t x : Bool) → single (relative c k) (relative d l) ≡ x → Fine (relative d l)
     → EndForm false (not x) t (end_bytes x (relative d l)) (relative c k) (relative d l)

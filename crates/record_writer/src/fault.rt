@@ -2,7 +2,7 @@ ghost use Rattle.std.specs.Prelude.{◌≡◌};
 ghost use Rattle.record_writer.specs.Told.{write_fault};
 
 /// Why a source is not written.
-#[derive(Clone, Copy)]
+#[derive(Clone, Copy, PartialEq, Eq, Debug)]
 pub enum WriteFault {
     /// A name is empty, too long, or has a byte that is not printable.
     Name,

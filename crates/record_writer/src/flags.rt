@@ -8,38 +8,25 @@ use source::sticky_index::{Assoc, IndexScope, StickyIndex};
 pub(crate) fn is_single(start: IndexScope<'_>, end: IndexScope<'_>) -> bool
     ensures { result ≡ single (scope_of start.entry) (scope_of end.entry) }
 {
-    match (start, end) {
-        (IndexScope::Relative(a), IndexScope::Relative(b)) => a.client == b.client
-            && a.clock == b.clock,
-        _ => false,
-    }
+    matches!((start, end), (IndexScope::Relative(a), IndexScope::Relative(b)) if a == b)
 }
 
 fn is_open(scope: IndexScope<'_>) -> bool
     ensures { result ≡ is_open (scope_of scope.entry) }
 {
-    match scope {
-        IndexScope::Relative(_) => false,
-        _ => true,
-    }
+    !matches!(scope, IndexScope::Relative(_))
 }
 
 fn is_by_name(scope: IndexScope<'_>) -> bool
     ensures { result ≡ by_name (scope_of scope.entry) }
 {
-    match scope {
-        IndexScope::Root(_) => true,
-        _ => false,
-    }
+    matches!(scope, IndexScope::Root(_))
 }
 
 fn is_after(assoc: Assoc) -> bool
     ensures { result ≡ sticks_after assoc }
 {
-    match assoc {
-        Assoc::Before => false,
-        Assoc::After => true,
-    }
+    assoc == Assoc::After
 }
 
 /// A flag's weight where it is set.

@@ -16,9 +16,6 @@ pub fn write_and_read<'b>(
 ) -> Result<(LinkSource<'b>, usize), WriteFault>
     ensures { MatchResult result (λ p. (start_of p.0 ≡ start_of source.now) × (end_of p.0 ≡ end_of source.now) × (p.1 ≡ length (record_of (start_of source.now) (end_of source.now)))) (λ e. refused (length buf.old) at (start_of source.now) (end_of source.now) ≡ Some e) }
 {
-    let _ = encode_weak_link(source, buf, at)?;
-    match decode_weak_link(&buf[at..]) {
-        Ok(p) => Ok(p),
-        Err(_) => unreachable(),
-    }
+    encode_weak_link(source, buf, at)?;
+    Ok(decode_weak_link(&buf[at..]).unwrap())
 }
