@@ -1,2 +1,1 @@
 mod BackLaws
-mod WriteLaws
