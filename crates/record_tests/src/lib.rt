@@ -18,13 +18,9 @@ mod tests {
     use source::weak::LinkSource;
     use std::test::Fail;
 
-    const UNREAD: (u64, usize) = (0, 99);
-
-    fn number(r: Result<(u64, usize), NumberFault>) -> (u64, usize) {
-        match r {
-            Ok((value, len)) => (value, len),
-            Err(fault) => (fault.cause.number() as u64, 100 + fault.offset % 100),
-        }
+    // The refusal's number, and the offset where the number begins.
+    fn number_told(fault: NumberFault) -> (u8, usize) {
+        (fault.cause.number(), fault.offset)
     }
 
     // The table of unsigned examples of the standard: the number, its first byte, its second byte, its length.
@@ -44,56 +40,55 @@ mod tests {
             assert!(rt; write_number(&mut buf, 0, value).is_ok());
             assert_eq!(rt; buf, [first, second, 0]);
             assert_eq!(rt;
-                number(read_number(&buf, 0, NumberField::Clock)),
-                (value, len)
+                read_number(&buf, 0, NumberField::Clock).map_err(number_told),
+                Ok((value, len))
             );
         }
     }
 
     #[test]
     fn number_limits(rt: HostRuntime) {
-        let most = b"\xff\xff\xff\xff\xff\xff\xff\x0f";
-        assert_eq!(rt;
-            number(read_number(most, 0, NumberField::Client)),
-            (0x1F_FFFF_FFFF_FFFF, 8)
+        let table: [(&[u8], usize, NumberField, Result<(u64, usize), (u8, usize)>); 9] = [
+            (
+                b"\xff\xff\xff\xff\xff\xff\xff\x0f",
+                0,
+                NumberField::Client,
+                Ok((0x1F_FFFF_FFFF_FFFF, 8)),
+            ),
+            (
+                b"\x80\x80\x80\x80\x80\x80\x80\x10",
+                0,
+                NumberField::Client,
+                Err((18, 0)),
+            ),
+            (
+                b"\xff\xff\xff\xff\x0f",
+                0,
+                NumberField::Clock,
+                Ok((0xFFFF_FFFF, 5)),
+            ),
+            (b"\x80\x80\x80\x80\x10", 0, NumberField::Clock, Err((18, 0))),
+            // a longer form, up to the last byte allowed and past it
+            (b"\x87\x80\x80\x80\x00", 0, NumberField::Count, Ok((7, 5))),
+            (
+                b"\x87\x80\x80\x80\x80\x00",
+                0,
+                NumberField::Count,
+                Err((18, 0)),
+            ),
+            // the bytes end inside a number, before it, and before the place
+            (b"\x01\x87", 1, NumberField::Count, Err((17, 1))),
+            (b"\x01", 1, NumberField::Count, Err((17, 1))),
+            (b"\x01", 2, NumberField::Count, Err((17, 2))),
+        ];
+        for (bytes, at, field, answer) in table {
+            assert_eq!(rt; read_number(bytes, at, field).map_err(number_told), answer);
+        }
+        // a number that is there is read
+        assert_ne!(rt;
+            read_number(b"\x01", 0, NumberField::Count).map_err(number_told),
+            Ok((0, 99))
         );
-        let above = b"\x80\x80\x80\x80\x80\x80\x80\x10";
-        assert_eq!(rt;
-            number(read_number(above, 0, NumberField::Client)),
-            (18, 100)
-        );
-        let clock = b"\xff\xff\xff\xff\x0f";
-        assert_eq!(rt;
-            number(read_number(clock, 0, NumberField::Clock)),
-            (0xFFFF_FFFF, 5)
-        );
-        assert_eq!(rt;
-            number(read_number(b"\x80\x80\x80\x80\x10", 0, NumberField::Clock)),
-            (18, 100)
-        );
-        // a longer form, up to the last byte allowed and past it
-        assert_eq!(rt;
-            number(read_number(b"\x87\x80\x80\x80\x00", 0, NumberField::Count)),
-            (7, 5)
-        );
-        assert_eq!(rt;
-            number(read_number(b"\x87\x80\x80\x80\x80\x00", 0, NumberField::Count)),
-            (18, 100)
-        );
-        // the bytes end inside a number, before it, and before the place
-        assert_eq!(rt;
-            number(read_number(b"\x01\x87", 1, NumberField::Count)),
-            (17, 101)
-        );
-        assert_eq!(rt;
-            number(read_number(b"\x01", 1, NumberField::Count)),
-            (17, 101)
-        );
-        assert_eq!(rt;
-            number(read_number(b"\x01", 2, NumberField::Count)),
-            (17, 102)
-        );
-        assert_ne!(rt; number(read_number(b"\x01", 0, NumberField::Count)), UNREAD);
     }
 
     fn anchor(client: u64, clock: u32, assoc: Assoc) -> StickyIndex<'static> {
@@ -108,12 +103,9 @@ mod tests {
         }
     }
 
-    // The refusal's number, or 0 and the length.
-    fn written(r: Result<usize, WriteFault>) -> (u8, usize) {
-        match r {
-            Ok(n) => (0, n),
-            Err(fault) => (fault.number(), 0),
-        }
+    // How many bytes were written, or the refusal's number.
+    fn write(source: &LinkSource<'_>, buf: &mut [u8], at: usize) -> Result<usize, u8> {
+        encode_weak_link(source, buf, at).map_err(WriteFault::number)
     }
 
     #[test]
@@ -123,12 +115,12 @@ mod tests {
             anchor(1, 300, Assoc::After),
             anchor(2, 7, Assoc::Before),
         ).ok_or("no source")?;
-        assert_eq!(rt; written(encode_weak_link(&source, &mut buf, 1)), (0, 7));
+        assert_eq!(rt; write(&source, &mut buf, 1), Ok(7));
         assert_eq!(rt; buf, [9, 7, 3, 1, 0xAC, 2, 2, 7, 9]);
-        assert_eq!(rt; written(encode_weak_link(&source, &mut buf, 3)), (20, 0));
-        assert_eq!(rt; written(encode_weak_link(&source, &mut buf, 10)), (20, 0));
+        assert_eq!(rt; write(&source, &mut buf, 3), Err(20));
+        assert_eq!(rt; write(&source, &mut buf, 10), Err(20));
         assert_eq!(rt; buf, [9, 7, 3, 1, 0xAC, 2, 2, 7, 9]);
-        assert_eq!(rt; written(encode_weak_link(&source, &mut buf, 2)), (0, 7));
+        assert_eq!(rt; write(&source, &mut buf, 2), Ok(7));
         assert_eq!(rt; buf, [9, 7, 7, 3, 1, 0xAC, 2, 2, 7]);
         Ok(())
     }
@@ -139,12 +131,12 @@ mod tests {
         let source = LinkSource::new(anchor(1, 5, Assoc::Before), anchor(1, 5, Assoc::After)).ok_or(
             "no source",
         )?;
-        assert_eq!(rt; written(encode_weak_link(&source, &mut buf, 0)), (0, 4));
+        assert_eq!(rt; write(&source, &mut buf, 0), Ok(4));
         assert_eq!(rt; buf, [7, 4, 1, 5, 9, 9, 9, 9, 9, 9, 9]);
         let day = LinkSource::new(root(b"day", Assoc::Before), root(b"day", Assoc::After)).ok_or(
             "no source",
         )?;
-        assert_eq!(rt; written(encode_weak_link(&day, &mut buf, 0)), (0, 10));
+        assert_eq!(rt; write(&day, &mut buf, 0), Ok(10));
         assert_eq!(rt; buf, [7, 0x3D, 3, 0x64, 0x61, 0x79, 3, 0x64, 0x61, 0x79, 9]);
         Ok(())
     }
@@ -157,18 +149,18 @@ mod tests {
         let both = LinkSource::new(root(b"", Assoc::Before), anchor(large, 0, Assoc::After)).ok_or(
             "no source",
         )?;
-        assert_eq!(rt; written(encode_weak_link(&both, &mut buf, 0)), (1, 0));
+        assert_eq!(rt; write(&both, &mut buf, 0), Err(1));
         let client = LinkSource::new(
             root(b"a", Assoc::Before),
             anchor(large, 0, Assoc::After),
         ).ok_or("no source")?;
-        assert_eq!(rt; written(encode_weak_link(&client, &mut buf, 0)), (4, 0));
+        assert_eq!(rt; write(&client, &mut buf, 0), Err(4));
         let room = LinkSource::new(
             root(b"a", Assoc::Before),
             anchor(large - 1, 0, Assoc::After),
         )
         .ok_or("no source")?;
-        assert_eq!(rt; written(encode_weak_link(&room, &mut buf, 0)), (20, 0));
+        assert_eq!(rt; write(&room, &mut buf, 0), Err(20));
         assert_eq!(rt; buf, [9, 9]);
         Ok(())
     }
@@ -197,46 +189,43 @@ mod tests {
         assert!(rt; !is_name(b"0123456789abcdef0123456789abcdef0"));
     }
 
-    // The refusal's number, its offset, and whether a number tells it; or 0, the bytes read and false.
-    fn read(r: Result<(LinkSource<'_>, usize), RecordFault>) -> (u8, usize, bool) {
-        match r {
-            Ok((_, n)) => (0, n, false),
-            Err(fault) => (
-                fault.number(),
-                fault.offset(),
-                told_by_number(fault.layer()),
-            ),
-        }
-    }
-
-    fn told_by_number(layer: Layer) -> bool {
-        match layer {
-            Layer::Number => true,
-            Layer::Record => false,
-        }
+    // The refusal's number, its offset, and whether a number tells it.
+    fn record_told(fault: RecordFault) -> (u8, usize, bool) {
+        (
+            fault.number(),
+            fault.offset(),
+            matches!(fault.layer(), Layer::Number),
+        )
     }
 
     #[test]
     fn faults(rt: HostRuntime) {
-        assert_eq!(rt; read(decode_weak_link(b"")), (17, 0, false));
-        assert_eq!(rt; read(decode_weak_link(b"\x08")), (21, 0, false));
-        assert_eq!(rt; read(decode_weak_link(b"\x07")), (17, 1, false));
-        assert_eq!(rt; read(decode_weak_link(b"\x07\x04")), (17, 2, true));
-        assert_eq!(rt; read(decode_weak_link(b"\x07\x04\x01")), (17, 3, true));
-        assert_eq!(rt;
-            read(decode_weak_link(b"\x07\x04\xff\xff\xff\xff\xff\xff\xff\x0f\x01")),
-            (0, 11, false)
-        );
-        assert_eq!(rt;
-            read(decode_weak_link(b"\x07\x04\x80\x80\x80\x80\x80\x80\x80\x10")),
-            (18, 2, true)
-        );
-        assert_eq!(rt; read(decode_weak_link(b"\x07\x29\x00")), (1, 2, false));
-        assert_eq!(rt; read(decode_weak_link(b"\x07\x29\x21")), (1, 2, false));
-        assert_eq!(rt; read(decode_weak_link(b"\x07\x29\xa1")), (17, 2, true));
-        assert_eq!(rt; read(decode_weak_link(b"\x07\x29\x02a")), (17, 2, false));
-        assert_eq!(rt; read(decode_weak_link(b"\x07\x29\x02a\x7f")), (1, 2, false));
-        assert_eq!(rt; read(decode_weak_link(b"\x07\x28\x01a\x55")), (0, 4, false));
+        let table: [(&[u8], Result<usize, (u8, usize, bool)>); 13] = [
+            (b"", Err((17, 0, false))),
+            (b"\x08", Err((21, 0, false))),
+            (b"\x07", Err((17, 1, false))),
+            (b"\x07\x04", Err((17, 2, true))),
+            (b"\x07\x04\x01", Err((17, 3, true))),
+            (b"\x07\x04\xff\xff\xff\xff\xff\xff\xff\x0f\x01", Ok(11)),
+            (
+                b"\x07\x04\x80\x80\x80\x80\x80\x80\x80\x10",
+                Err((18, 2, true)),
+            ),
+            (b"\x07\x29\x00", Err((1, 2, false))),
+            (b"\x07\x29\x21", Err((1, 2, false))),
+            (b"\x07\x29\xa1", Err((17, 2, true))),
+            (b"\x07\x29\x02a", Err((17, 2, false))),
+            (b"\x07\x29\x02a\x7f", Err((1, 2, false))),
+            (b"\x07\x28\x01a\x55", Ok(4)),
+        ];
+        for (bytes, answer) in table {
+            assert_eq!(rt;
+                decode_weak_link(bytes)
+                    .map(|(_, len)| len)
+                    .map_err(record_told),
+                answer
+            );
+        }
     }
 
     // What a partner sent, decoded and written again, is the bytes that came.
@@ -250,16 +239,12 @@ mod tests {
         ];
         for bytes in came {
             let mut buf = [0u8; 16];
-            match decode_weak_link(bytes) {
-                Ok((source, n)) => {
-                    assert_eq!(rt; n, bytes.len());
-                    assert_eq!(rt; written(encode_weak_link(&source, &mut buf, 0)), (0, n));
-                    assert!(rt; n <= 16);
-                    assert!(rt; &buf[0..n] == bytes);
-                    assert!(rt; write_and_read(&source, &mut buf, 3).is_ok());
-                }
-                Err(_) => return Err(Fail::new("not read")),
-            }
+            let (source, n) = decode_weak_link(bytes).ok().ok_or("not read")?;
+            assert_eq!(rt; n, bytes.len());
+            assert_eq!(rt; write(&source, &mut buf, 0), Ok(n));
+            assert!(rt; n <= 16);
+            assert_eq!(rt; &buf[..n], bytes);
+            assert_eq!(rt; write_and_read(&source, &mut buf, 3), Ok((source, n)));
         }
         Ok(())
     }
