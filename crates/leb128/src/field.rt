@@ -2,7 +2,7 @@ ghost use Rattle.std.specs.Prelude.{◌≡◌};
 ghost use Rattle.leb128.specs.Fields.{max_len, limit};
 
 /// What a number stands for; it decides how many bytes the number may take, and which values it may have.
-#[derive(Clone, Copy)]
+#[derive(Clone, Copy, PartialEq, Eq, Debug)]
 pub enum NumberField {
     Client,
     Clock,
