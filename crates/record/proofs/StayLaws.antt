@@ -1,19 +1,18 @@
-use Rattle.std.proofs.Common.{◌≡◌, ℕ, zero, suc, ◌+◌, ◌≤◌, Bool, true, false, cond, eqb, List, [], ◌∷◌, ◌++◌, length, take, drop, Some, None, Ok, Err, Option, Result, refl, ap, ◌∙◌, arith}
+use Rattle.std.proofs.Common.{◌≡◌, ℕ, zero, suc, ◌+◌, ◌≤◌, Bool, true, false, cond, eqb, List, [], ◌∷◌, ◌++◌, length, drop, Some, None, Ok, Err, Option, Result, refl, ap, ◌∙◌, arith}
 use Rattle.std.proofs.lemmas.List.{append_assoc, drop-append-le, take-append-le, length-drop, length-append}
-use Rattle.std.proofs.lemmas.Bool.{both_ways}
 use Rattle.leb128.specs.declared.fault.NumberFault.{NumberFault}
 use Rattle.record.specs.declared.fault.RecordCause.{RecordCause}
 use Rattle.record.specs.declared.fault.RecordCause.TheVariants as rec
 use Rattle.record.specs.declared.fault.RecordFault.{RecordFault}
 use Rattle.record.specs.declared.fault.RecordFault.TheVariants.{Own}
 use Rattle.source.specs.Meaning.{Scope, Side}
-use Rattle.leb128.specs.Reading.{Read, done, ends, large, reading, answer, number_at, Reads}
+use Rattle.leb128.specs.declared.fault.NumberCause.TheVariants as num
+use Rattle.leb128.specs.Reading.{Read, reading, answer, number_at, Reads}
 use Rattle.leb128.specs.declared.field.NumberField.{NumberField}
 use Rattle.leb128.specs.declared.field.NumberField.TheVariants.{Client, Clock, Count}
 use Rattle.leb128.specs.Fields.{max_len, limit}
-use Rattle.leb128.proofs.FieldLaws.{field_some}
 use Rattle.record.specs.Decoding.{then, lifted, id_at, name_fault, name_here, name_at, scope_at, end_at, fields, decode}
-use Rattle.record.specs.Names.{printable, name_count}
+use Rattle.record.specs.Names.{name_count}
 use Rattle.record.specs.Format.{has_flag}
 use Rattle.record.specs.Settled.{last_number, last_own, last_record, settled}
 use Rattle.record.specs.Forms.{NumberForm}
@@ -32,10 +31,10 @@ lifted-settled (Ok a) s = s
 lifted-settled (Err e) s = s
 
 reads_more : (most limit : ℕ) (bs more : List ℕ) (p : ℕ) (q : Read) → Reads most limit bs q → settled last_number (answer p q) ≡ true → Reads most limit (bs ++ more) q
-reads_more most limit bs more p (done v n) t s =
+reads_more most limit bs more p (Ok (v, n)) t s =
     (t.0, t.1 ++ more, ap (λ z. z ++ more) t.2 ∙ append_assoc t.0 t.1 more, t.3, t.4, t.5, t.6, t.7)
-reads_more most limit bs more p ends t s = absurd (both_ways false refl s)
-reads_more most limit bs more p large t s =
+reads_more most limit bs more p (Err num.Ends) t s = cc
+reads_more most limit bs more p (Err num.Large) t s =
     (t.0, t.1, t.2 ++ more, ap (λ z. z ++ more) t.3 ∙ append_assoc t.0 (t.1 ∷ t.2) more, t.4, t.5, t.6, t.7)
 
 number_stays : (field : NumberField) (bs more : List ℕ) (p : ℕ) → p ≤ length bs → settled last_number (number_at field bs p) ≡ true
@@ -43,9 +42,8 @@ number_stays : (field : NumberField) (bs more : List ℕ) (p : ℕ) → p ≤ le
 number_stays field bs more p l s =
     let m : ℕ = max_len field in
     let h : ℕ = limit field in
-    let some = field_some field in
     ap (λ q. answer p (reading m h q)) (drop-append-le p bs more l)
-    ∙ ap (answer p) (only m h (drop p bs ++ more) (reading m h (drop p bs)) (reads_more m h (drop p bs) more p (reading m h (drop p bs)) (told m h (drop p bs) some.0 some.1) s))
+    ∙ ap (answer p) (only m h (drop p bs ++ more) (reading m h (drop p bs)) (reads_more m h (drop p bs) more p (reading m h (drop p bs)) (told field (drop p bs)) s))
 
 -- What a front takes lies within the bytes.
 front-within : (bs : List ℕ) (p n : ℕ) (P : List ℕ → Type 0) → p ≤ length bs → Front bs p n P → n ≤ length bs
@@ -53,26 +51,19 @@ front-within bs p n P l f = omega (arith, length-append f.0 f.1, ap length f.2, 
 
 id_stays : (bs more : List ℕ) (p : ℕ) → p ≤ length bs → settled last_number (id_at bs p) ≡ true → id_at (bs ++ more) p ≡ id_at bs p
 id_stays bs more p l s =
-    then-stays last_number (number_at Client bs p) (number_at Client (bs ++ more) p) _ _ s
-    (number_stays Client bs more p l)
-    (λ c e t.
-    let w : p + c.1 ≤ length bs = front-within bs p (p + c.1) (λ a. NumberForm Client a c.0) l (number_out Client bs p c.0 c.1 e) in
-    then-stays last_number (number_at Clock bs (p + c.1)) (number_at Clock (bs ++ more) (p + c.1)) _ _ t
-    (number_stays Clock bs more (p + c.1) w)
+    then-stays last_number (number_at Client bs p) _ _ _ s (number_stays Client bs more p l) (λ c e t.
+    then-stays last_number (number_at Clock bs (p + c.1)) _ _ _ t
+    (number_stays Clock bs more (p + c.1) (front-within bs p (p + c.1) (λ a. NumberForm Client a c.0) l (number_out Client bs p c.0 c.1 e)))
     (λ k x y. refl))
 
 abbrev is_last : Option RecordCause → Bool
 is_last None = true
 is_last (Some c) = last_own c
 
-byte : (t : Bool) (o m : Option RecordCause) → is_last (cond t o (Some rec.Name)) ≡ true → (is_last o ≡ true → m ≡ o) → cond t m (Some rec.Name) ≡ cond t o (Some rec.Name)
-byte true o m s h = h s
-byte false o m s h = refl
-
 fault_stays : (k : ℕ) (bs more : List ℕ) → is_last (name_fault k bs) ≡ true → name_fault k (bs ++ more) ≡ name_fault k bs
 fault_stays zero bs more s = refl
-fault_stays (suc k) [] more s = absurd (both_ways false refl s)
-fault_stays (suc k) (b ∷ bs) more s = byte (printable b) (name_fault k bs) (name_fault k (bs ++ more)) s (fault_stays k bs more)
+fault_stays (suc k) [] more s = cc
+fault_stays (suc k) (b ∷ bs) more s = grind (arith, fault_stays k bs more)
 
 here_last : (bs : List ℕ) (start p k : ℕ) (o : Option RecordCause) → settled last_record (name_here bs start p k o) ≡ true → is_last o ≡ true
 here_last bs start p k None s = refl
@@ -80,8 +71,7 @@ here_last bs start p k (Some c) s = s
 
 here_stays : (bs more : List ℕ) (start p k : ℕ) (o : Option RecordCause) → p ≤ length bs → (o ≡ None → k ≤ length (drop p bs))
     → name_here (bs ++ more) start p k o ≡ name_here bs start p k o
-here_stays bs more start p k None l h =
-    ap (λ q. Ok (q, p + k)) (ap (take k) (drop-append-le p bs more l) ∙ take-append-le k (drop p bs) more (h refl))
+here_stays bs more start p k None l h = rw (drop-append-le p bs more l, take-append-le k (drop p bs) more (h refl)) refl
 here_stays bs more start p k (Some c) l h = refl
 
 either : {X : Type 0} (t : Bool) (x y : Result X RecordFault) (z : RecordFault) → settled last_record (cond t x (Err z)) ≡ true
@@ -96,19 +86,16 @@ name_stays bs more p l s =
     (λ c e t.
     let q : ℕ = p + c.1 in
     let w : q ≤ length bs = front-within bs p (p + c.1) (λ a. NumberForm Count a c.0) l (number_out Count bs p c.0 c.1 (lifted_ok (number_at Count bs p) c e)) in
-    either (name_count c.0) (name_here bs p q c.0 (name_fault c.0 (drop q bs))) (name_here (bs ++ more) p q c.0 (name_fault c.0 (drop q (bs ++ more)))) (Own rec.Name p) t
-    (λ u.
-    let o : name_fault c.0 (drop q (bs ++ more)) ≡ name_fault c.0 (drop q bs) =
-    ap (name_fault c.0) (drop-append-le q bs more w) ∙ fault_stays c.0 (drop q bs) more (here_last bs p q c.0 (name_fault c.0 (drop q bs)) u) in
-    ap (name_here (bs ++ more) p q c.0) o ∙ here_stays bs more p q c.0 (name_fault c.0 (drop q bs)) w (name_within c.0 (drop q bs))))
+    let o : Option RecordCause = name_fault c.0 (drop q bs) in
+    either (name_count c.0) (name_here bs p q c.0 o) _ (Own rec.Name p) t
+    (λ u. rw (drop-append-le q bs more w, fault_stays c.0 (drop q bs) more (here_last bs p q c.0 o u)) (here_stays bs more p q c.0 o w (name_within c.0 (drop q bs)))))
 
 scope_stays : (o t : Bool) (bs more : List ℕ) (p : ℕ) → p ≤ length bs → settled last_record (scope_at o t bs p) ≡ true → scope_at o t (bs ++ more) p ≡ scope_at o t bs p
 scope_stays false t bs more p l s =
-    then-stays last_record (lifted (id_at bs p)) (lifted (id_at (bs ++ more) p)) _ _ s (λ u. ap lifted (id_stays bs more p l (lifted-settled (id_at bs p) u))) (λ i x y. refl)
+    then-stays last_record (lifted (id_at bs p)) _ _ _ s (λ u. ap lifted (id_stays bs more p l (lifted-settled (id_at bs p) u))) (λ i x y. refl)
 scope_stays true false bs more p l s =
-    then-stays last_record (lifted (id_at bs p)) (lifted (id_at (bs ++ more) p)) _ _ s (λ u. ap lifted (id_stays bs more p l (lifted-settled (id_at bs p) u))) (λ i x y. refl)
-scope_stays true true bs more p l s =
-    then-stays last_record (name_at bs p) (name_at (bs ++ more) p) _ _ s (name_stays bs more p l) (λ i x y. refl)
+    then-stays last_record (lifted (id_at bs p)) _ _ _ s (λ u. ap lifted (id_stays bs more p l (lifted-settled (id_at bs p) u))) (λ i x y. refl)
+scope_stays true true bs more p l s = then-stays last_record (name_at bs p) _ _ _ s (name_stays bs more p l) (λ i x y. refl)
 
 end_stays : (o many t : Bool) (bs more : List ℕ) (p : ℕ) (s : Scope) → p ≤ length bs
     → settled last_record (cond o (scope_at true t bs p) (cond many (scope_at false false bs p) (Ok (s, p)))) ≡ true
@@ -119,27 +106,21 @@ end_stays false false t bs more p s l h = refl
 
 fields_stay : (f : ℕ) (bs more : List ℕ) → 2 ≤ length bs → settled last_record (fields f bs) ≡ true → fields f (bs ++ more) ≡ fields f bs
 fields_stay f bs more l s =
-    then-stays last_record (scope_at (has_flag 8 f) (has_flag 32 f) bs 2) (scope_at (has_flag 8 f) (has_flag 32 f) (bs ++ more) 2) _ _ s
-    (scope_stays (has_flag 8 f) (has_flag 32 f) bs more 2 l)
-    (λ a e t.
-    let w : a.1 ≤ length bs = front-within bs 2 a.1 _ l (scope_out (has_flag 8 f) (has_flag 32 f) bs 2 a e).2 in
-    then-stays last_record (end_at f bs a) (end_at f (bs ++ more) a) _ _ t
-    (end_stays (has_flag 16 f) (has_flag 1 f) (has_flag 32 f) bs more a.1 a.0 w)
+    then-stays last_record (scope_at (has_flag 8 f) (has_flag 32 f) bs 2) _ _ _ s (scope_stays (has_flag 8 f) (has_flag 32 f) bs more 2 l) (λ a e t.
+    then-stays last_record (end_at f bs a) _ _ _ t
+    (end_stays (has_flag 16 f) (has_flag 1 f) (has_flag 32 f) bs more a.1 a.0 (front-within bs 2 a.1 _ l (scope_out (has_flag 8 f) (has_flag 32 f) bs 2 a e).2))
     (λ b x y. refl))
 
+-- A record of one byte is settled only where that is not its kind.
 swap : (t : Bool) (x : Result ((Side × Side) × ℕ) RecordFault) → settled {A = (Side × Side) × ℕ} last_record (cond t (Err (Own rec.Ends 1)) (Err (Own rec.Kind 0))) ≡ true
     → cond t x (Err (Own rec.Kind 0)) ≡ cond t (Err (Own rec.Ends 1)) (Err (Own rec.Kind 0))
-swap true x s = absurd (both_ways false refl s)
+swap true x s = cc
 swap false x s = refl
-
--- A record of one byte is settled only where that is not its kind.
-lone-stays : (t : Bool) (b : ℕ) (more : List ℕ) → settled {A = (Side × Side) × ℕ} last_record (cond (eqb b 7) (Err (Own rec.Ends 1)) (Err (Own rec.Kind 0))) ≡ true → decode (b ∷ more) ≡ cond (eqb b 7) (Err (Own rec.Ends 1)) (Err (Own rec.Kind 0))
-lone-stays t b [] s = refl
-lone-stays t b (f ∷ more) s = swap (eqb b 7) (fields f (b ∷ f ∷ more)) s
 
 -- What is read stays so, and so does any fault but that the bytes end, whatever bytes come after.
 pub decode-stays : (bs more : List ℕ) → settled last_record (decode bs) ≡ true → decode (bs ++ more) ≡ decode bs
-decode-stays [] more s = absurd (both_ways false refl s)
-decode-stays (b ∷ []) more s = lone-stays (eqb b 7) b more s
+decode-stays [] more s = cc
+decode-stays (b ∷ []) [] s = refl
+decode-stays (b ∷ []) (f ∷ more) s = swap (eqb b 7) (fields f (b ∷ f ∷ more)) s
 decode-stays (b ∷ f ∷ bs) more s =
     either (eqb b 7) (fields f (b ∷ f ∷ bs)) (fields f (b ∷ f ∷ (bs ++ more))) (Own rec.Kind 0) s (fields_stay f (b ∷ f ∷ bs) more (omega arith))

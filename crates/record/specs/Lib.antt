@@ -1,4 +1,6 @@
+pub mod Cursor
 pub mod Decoding
+pub mod Flagged
 pub mod Format
 pub mod Forms
 pub mod Names

@@ -5,7 +5,7 @@ ghost use Rattle.record.specs.declared.fault.RecordFault.TheVariants.{Number};
 use leb128::fault::NumberFault;
 
 /// Why a record is not read, besides its numbers.
-#[derive(Clone, Copy)]
+#[derive(Clone, Copy, PartialEq, Eq, Debug)]
 pub enum RecordCause {
     /// The record ends inside a name or before a lone byte.
     Ends,
@@ -16,6 +16,7 @@ pub enum RecordCause {
 }
 
 impl RecordCause {
+    // A method, and no `From<RecordCause> for u8`: where it is called, `number()` says what the byte is, and `into()` would not.
     /// The refusal's number.
     pub fn number(self) -> u8
         ensures { result ≡ record_cause self }
@@ -29,7 +30,7 @@ impl RecordCause {
 }
 
 /// A record that is not read: a number's fault whole, or one of its own with the offset where the name (that is, its count) or the lone byte begins.
-#[derive(Clone, Copy)]
+#[derive(Clone, Copy, PartialEq, Eq, Debug)]
 pub enum RecordFault {
     Number(NumberFault),
     Own(RecordCause, usize),
@@ -44,7 +45,7 @@ impl From<NumberFault> for RecordFault {
 }
 
 /// The layer that tells a fault.
-#[derive(Clone, Copy)]
+#[derive(Clone, Copy, PartialEq, Eq, Debug)]
 pub enum Layer {
     Number,
     Record,

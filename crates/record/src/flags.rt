@@ -1,26 +1,58 @@
 ghost use Rattle.std.specs.Prelude.{◌≡◌};
-ghost use Rattle.record.specs.Format.{has_flag};
+ghost use Rattle.source.specs.Meaning.{sticks_after};
+ghost use Rattle.record.specs.Flagged.{form_of, FlagsOf};
 
-/// The flag byte, taken apart.
+use source::sticky_index::Assoc;
+
+/// How a scope is written: as an anchor, or open on a nested list or on a root list.
 #[derive(Clone, Copy)]
-pub(crate) struct Flags {
-    pub many: bool,
-    pub start_after: bool,
-    pub end_after: bool,
-    pub start_open: bool,
-    pub end_open: bool,
-    pub named: bool,
+pub(crate) enum Form {
+    Anchor,
+    Nested,
+    Root,
 }
 
-pub(crate) fn flags_in(byte: u8) -> Flags
-    ensures { (result.many ≡ has_flag 1 byte) × (result.start_after ≡ has_flag 2 byte) × (result.end_after ≡ has_flag 4 byte) × (result.start_open ≡ has_flag 8 byte) × (result.end_open ≡ has_flag 16 byte) × (result.named ≡ has_flag 32 byte) }
+impl Form {
+    fn of(opened: bool, named: bool) -> Form
+        ensures { result ≡ form_of opened named }
+    {
+        match (opened, named) {
+            (false, _) => Form::Anchor,
+            (true, false) => Form::Nested,
+            (true, true) => Form::Root,
+        }
+    }
+}
+
+// A function, and no `From<bool> for Assoc`: both are of other crates, so the impl may not stand here.
+fn assoc_of(after: bool) -> Assoc
+    ensures { sticks_after result ≡ after }
 {
-    Flags {
-        many: byte & 0x01 != 0,
-        start_after: byte & 0x02 != 0,
-        end_after: byte & 0x04 != 0,
-        start_open: byte & 0x08 != 0,
-        end_open: byte & 0x10 != 0,
-        named: byte & 0x20 != 0,
+    if after { Assoc::After } else { Assoc::Before }
+}
+
+/// What a flag byte says of its record.
+#[derive(Clone, Copy)]
+pub(crate) struct Flags {
+    pub start: Form,
+    pub start_assoc: Assoc,
+    /// None where the end's scope is the start's.
+    pub end: Option<Form>,
+    pub end_assoc: Assoc,
+}
+
+impl From<u8> for Flags {
+    ghost from_gives = { FlagsOf };
+
+    fn from(byte: u8) -> Flags {
+        let many = byte & 0x01 != 0;
+        let end_open = byte & 0x10 != 0;
+        let named = byte & 0x20 != 0;
+        Flags {
+            start: Form::of(byte & 0x08 != 0, named),
+            start_assoc: assoc_of(byte & 0x02 != 0),
+            end: (end_open || many).then_some(Form::of(end_open, named)),
+            end_assoc: assoc_of(byte & 0x04 != 0),
+        }
     }
 }

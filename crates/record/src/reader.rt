@@ -1,124 +1,76 @@
-ghost use Rattle.std.specs.Prelude.{◌≡◌, ℕ, ◌≤◌, true, List, ◌++◌, length, IfOk, Ok, Err, MatchResult};
-ghost use Rattle.source.specs.Meaning.{Side, scope_of, sticks_after, id_of, start_of, end_of};
-ghost use Rattle.record.specs.Decoding.{id_at, name_at, scope_at, end_at, fields, decode};
+ghost use Rattle.std.specs.Prelude.{◌≡◌, ℕ, ◌+◌, ◌-◌, ◌<◌, ◌≤◌, true, List, ◌++◌, length, IfOk, Ok, Err, MatchResult};
+ghost use Rattle.source.specs.Meaning.{Side, scope_of, id_of, start_of, end_of};
+ghost use Rattle.leb128.specs.Fields.{limit};
+ghost use Rattle.leb128.specs.Reading.{number_at};
+ghost use Rattle.record.specs.Flagged.{opens, names};
+ghost use Rattle.record.specs.Decoding.{id_at, name_at, scope_at, fields, decode};
 ghost use Rattle.record.specs.Forms.{RecordForm};
 ghost use Rattle.record.specs.Settled.{settled, last_record, SettledAt};
 
 use crate::fault::{RecordCause, RecordFault};
-use crate::flags::flags_in;
-use crate::name::check_name;
+use crate::flags::{Flags, Form};
+use crate::name::take_name;
 use leb128::fault::NumberFault;
 use leb128::field::NumberField;
 use leb128::reader::read_number;
 use source::id::Id;
-use source::sticky_index::{Assoc, IndexScope, StickyIndex};
+use source::sticky_index::{IndexScope, StickyIndex};
 use source::weak::LinkSource;
 
-/// Reads an id: a client and a clock; and the place after it.
-fn read_id(bytes: &[u8], at: usize) -> Result<(Id, usize), NumberFault>
-    requires { at ≤ length bytes.now }
-    ensures { MatchResult result (λ p. (id_at bytes.now at ≡ Ok (id_of p.0, p.1)) × (p.1 ≤ length bytes.now)) (λ e. id_at bytes.now at ≡ Err e) }
-{
-    let (client, n) = read_number(bytes, at, NumberField::Client)?;
-    let (clock, m) = read_number(bytes, at + n, NumberField::Clock)?;
-    Ok((
-        Id {
+/// Bytes that are read one piece after another, and the place where the next piece begins.
+#[derive(Drop)]
+struct Reader<'a> {
+    bytes: &'a [u8],
+    at: usize,
+    ghost within: { at ≤ length bytes.now },
+}
+
+impl<'a> Reader<'a> {
+    ghost use Rattle.record.specs.Cursor.{Takes};
+
+    /// Takes a number.
+    fn number(&mut self, field: NumberField) -> Result<u64, NumberFault>
+        ensures same { self.new.bytes ≡ self.old.bytes }
+        ensures read { MatchResult result (λ v. (number_at field self.old.bytes.now self.old.at ≡ Ok (v, self.new.at - self.old.at)) × (self.old.at ≤ self.new.at) × (v < limit field)) (λ e. number_at field self.old.bytes.now self.old.at ≡ Err e) }
+    {
+        let (value, n) = read_number(self.bytes, self.at, field)?;
+        self.at += n;
+        Ok(value)
+    }
+
+    /// Takes an id: a client and a clock.
+    fn id(&mut self) -> Result<Id, NumberFault>
+        ensures { Takes id_of id_at self.old result self.new }
+    {
+        let client = self.number(NumberField::Client)?;
+        let clock = self.number(NumberField::Clock)?;
+        Ok(Id {
             client,
             clock: clock as u32,
-        },
-        at + n + m,
-    ))
-}
+        })
+    }
 
-/// Reads a name, its byte count first: a part of the bytes, and the place after it.
-fn read_name<'a>(bytes: &'a [u8], at: usize) -> Result<(&'a [u8], usize), RecordFault>
-    requires { at ≤ length bytes.now }
-    ensures { MatchResult result (λ p. (name_at bytes.now at ≡ Ok (p.0.now, p.1)) × (p.1 ≤ length bytes.now)) (λ e. name_at bytes.now at ≡ Err e) }
-{
-    let (count, n) = read_number(bytes, at, NumberField::Count)?;
-    if count == 0 {
-        return Err(RecordFault::Own(RecordCause::Name, at));
+    /// Takes a name, its byte count first.
+    fn name(&mut self) -> Result<&'a [u8], RecordFault>
+        ensures { Takes (λ name. name.now) name_at self.old result self.new }
+    {
+        let start = self.at;
+        let count = self.number(NumberField::Count)? as usize;
+        let rest = &self.bytes[self.at..];
+        let name = take_name(rest, count).map_err(|cause| RecordFault::Own(cause, start))?;
+        self.at += count;
+        Ok(name)
     }
-    if count > 32 {
-        return Err(RecordFault::Own(RecordCause::Name, at));
-    }
-    let from = at + n;
-    let count = count as usize;
-    match check_name(bytes, from, count) {
-        Some(cause) => Err(RecordFault::Own(cause, at)),
-        None => Ok((&bytes[from..from + count], from + count)),
-    }
-}
 
-/// Reads a scope, and the place after it: an anchor, or open by root name or by nested list.
-fn read_scope<'a>(
-    bytes: &'a [u8],
-    at: usize,
-    opened: bool,
-    named: bool,
-) -> Result<(IndexScope<'a>, usize), RecordFault>
-    requires { at ≤ length bytes.now }
-    ensures { MatchResult result (λ p. (scope_at opened named bytes.now at ≡ Ok (scope_of p.0, p.1)) × (p.1 ≤ length bytes.now)) (λ e. scope_at opened named bytes.now at ≡ Err e) }
-{
-    if opened {
-        if named {
-            let (name, next) = read_name(bytes, at)?;
-            Ok((IndexScope::Root(name), next))
-        } else {
-            let (list, next) = read_id(bytes, at)?;
-            Ok((IndexScope::Nested(list), next))
+    /// Takes a scope of a form: an anchor, or open by root name or by nested list.
+    fn scope(&mut self, form: Form) -> Result<IndexScope<'a>, RecordFault>
+        ensures { Takes scope_of (scope_at (opens form) (names form)) self.old result self.new }
+    {
+        match form {
+            Form::Anchor => Ok(IndexScope::Relative(self.id()?)),
+            Form::Nested => Ok(IndexScope::Nested(self.id()?)),
+            Form::Root => Ok(IndexScope::Root(self.name()?)),
         }
-    } else {
-        let (id, next) = read_id(bytes, at)?;
-        Ok((IndexScope::Relative(id), next))
-    }
-}
-
-/// Reads the end's scope, and the place after it; without one in the record it is the start's.
-fn read_end<'a>(
-    bytes: &'a [u8],
-    start: IndexScope<'a>,
-    at: usize,
-    byte: u8,
-) -> Result<(IndexScope<'a>, usize), RecordFault>
-    requires { at ≤ length bytes.now }
-    ensures { MatchResult result (λ p. (end_at byte bytes.now (scope_of start.entry, at) ≡ Ok (scope_of p.0, p.1)) × (p.1 ≤ length bytes.now)) (λ e. end_at byte bytes.now (scope_of start.entry, at) ≡ Err e) }
-{
-    let flags = flags_in(byte);
-    if flags.end_open {
-        read_scope(bytes, at, true, flags.named)
-    } else if flags.many {
-        read_scope(bytes, at, false, false)
-    } else {
-        Ok((start, at))
-    }
-}
-
-fn assoc_of(after: bool) -> Assoc
-    ensures { sticks_after result ≡ after }
-{
-    if after { Assoc::After } else { Assoc::Before }
-}
-
-/// Reads what stands after the flags.
-fn read_fields<'a>(bytes: &'a [u8], byte: u8) -> Result<(LinkSource<'a>, usize), RecordFault>
-    requires { 2 ≤ length bytes.now }
-    ensures { MatchResult result (λ p. (fields byte bytes.now ≡ Ok ((start_of p.0, end_of p.0), p.1)) × (p.1 ≤ length bytes.now)) (λ e. fields byte bytes.now ≡ Err e) }
-{
-    let flags = flags_in(byte);
-    let (first, next) = read_scope(bytes, 2, flags.start_open, flags.named)?;
-    let (last, next) = read_end(bytes, first, next, byte)?;
-    let start = StickyIndex {
-        scope: first,
-        assoc: assoc_of(flags.start_after),
-    };
-    let end = StickyIndex {
-        scope: last,
-        assoc: assoc_of(flags.end_after),
-    };
-    match LinkSource::new(start, end) {
-        Some(source) => Ok((source, next)),
-        None => unreachable(),
     }
 }
 
@@ -126,12 +78,27 @@ fn read_fields<'a>(bytes: &'a [u8], byte: u8) -> Result<(LinkSource<'a>, usize),
 fn read_record<'a>(bytes: &'a [u8]) -> Result<(LinkSource<'a>, usize), RecordFault>
     ensures { MatchResult result (λ p. (decode bytes.now ≡ Ok ((start_of p.0, end_of p.0), p.1)) × (p.1 ≤ length bytes.now)) (λ e. decode bytes.now ≡ Err e) }
 {
-    match bytes {
-        [] => Err(RecordFault::Own(RecordCause::Ends, 0)),
-        [7] => Err(RecordFault::Own(RecordCause::Ends, 1)),
-        [7, flags, ..] => read_fields(bytes, *flags),
-        _ => Err(RecordFault::Own(RecordCause::Kind, 0)),
-    }
+    let flags = match bytes {
+        [] => return Err(RecordFault::Own(RecordCause::Ends, 0)),
+        [7] => return Err(RecordFault::Own(RecordCause::Ends, 1)),
+        [7, flags, ..] => Flags::from(*flags),
+        _ => return Err(RecordFault::Own(RecordCause::Kind, 0)),
+    };
+    let mut reader = Reader { bytes, at: 2 };
+    let first = reader.scope(flags.start)?;
+    let last = match flags.end {
+        Some(form) => reader.scope(form)?,
+        None => first,
+    };
+    let start = StickyIndex {
+        scope: first,
+        assoc: flags.start_assoc,
+    };
+    let end = StickyIndex {
+        scope: last,
+        assoc: flags.end_assoc,
+    };
+    Ok((LinkSource::new(start, end).unwrap(), reader.at))
 }
 
 /// Reads the weak-link record that bytes begin with: its source, and how many bytes it takes.
