@@ -54,7 +54,7 @@ fn put_number(part: &mut [u8], value: u64)
     requires { length (uleb value) ≤ length part.old }
     ensures { part.new ≡ uleb value ++ drop (length (uleb value)) part.old }
 {
-    // Not `part.iter_mut().zip(..)`: of what a loop over such a pair wrote, a proof would know nothing.
+    // By index, since the proof does not close over `part.iter_mut().zip(..)`: of what such a loop wrote, nothing is known after it.
     for (i, b) in NumberBytes::of(value).enumerate() {
         part[i] = b;
     }
