@@ -1,52 +1,49 @@
-use Rattle.std.proofs.Common.{◌≡◌, ℕ, ◌+◌, ◌*◌, ◌%◌, ◌^◌, ◌<◌, ◌≤◌, Bool, true, false, ◌&&◌, ◌||◌, eqb, ltb, refl, ap, ◌∙◌, ap₂, inl, inr, arith}
+use Rattle.std.proofs.Common.{◌≡◌, ℕ, ◌+◌, ◌*◌, ◌%◌, ◌^◌, ◌<◌, ◌≤◌, Bool, true, false, ◌||◌, eqb, refl, sym, ap, ◌∙◌, subst, ap₂, inl, inr, arith}
 use lib.Bits.{bit_or}
 use Rattle.std.proofs.lemmas.Bool.{cases_eq, cases_lt}
-use Rattle.std.proofs.lemmas.Nat.{one_shl}
 use Rattle.std.proofs.lemmas.Bool.Decides.{nat_tests}
+use Rattle.std.proofs.lemmas.Nat.{one_shl}
 use Rattle.law.specs.Faces.{bit}
 use Rattle.law.proofs.Bits.{bit-or, bit-one}
 
--- The bits of s are those of b, and of the numbers below n those that pass a test.
-abbrev pub Gathered : (ℕ → Bool) → ℕ → ℕ → ℕ → Type 0
-Gathered f b n s = (m : ℕ) → bit m s ≡ (bit m b || (ltb m n && f m))
+-- Each bit m of s is that of b, or is added: below n as R m tells, and from n on not at all.
+abbrev pub Gathered : (ℕ → Bool → Type 0) → ℕ → ℕ → ℕ → Type 0
+Gathered R b n s = (m : ℕ) → (t : Bool) × (m < n → R m t) × (n ≤ m → t ≡ false) × (bit m s ≡ (bit m b || t))
 
 or_false : (x : Bool) → x ≡ (x || false)
 or_false true = refl
 or_false false = refl
 
-none : (x y : Bool) (m : ℕ) → x ≡ (x || (ltb m 0 && y))
-none x y m = let e : ltb m 0 ≡ false = grind (arith, nat_tests) in rw e (or_false x)
+pub gather_start : (R : ℕ → Bool → Type 0) (b : ℕ) → Gathered R b 0 b
+gather_start R b m = (false, λ h. absurd (omega arith), λ _. refl, or_false (bit m b))
 
-pub gather_start : (f : ℕ → Bool) (b : ℕ) → Gathered f b 0 b
-gather_start f b m = none (bit m b) (f m) m
-
-taken_in : (x y : Bool) (m n : ℕ) → (m ≡ n → y ≡ true) → ((x || (ltb m n && y)) || eqb m n) ≡ (x || (ltb m (n + 1) && y))
-taken_in true y m n h = refl
-taken_in false y m n h = elim (cases_eq m n) [
-  | inl e ↦ (let z = h e in grind (arith, nat_tests))
-  | inr ne ↦ grind (arith, nat_tests)
-]
-
-left_out : (x y : Bool) (m n : ℕ) → (m ≡ n → y ≡ false) → (x || (ltb m n && y)) ≡ (x || (ltb m (n + 1) && y))
-left_out true y m n h = refl
-left_out false y m n h = elim (cases_eq m n) [
-  | inl e ↦ (let z = h e in grind (arith, nat_tests))
-  | inr ne ↦ grind (arith, nat_tests)
-]
-
-pub gather_in : (f : ℕ → Bool) (b n s : ℕ) → n < 64 → f n ≡ true → Gathered f b n s → Gathered f b (n + 1) (bit_or s ((1 * 2 ^ n) % 2 ^ 64))
-gather_in f b n s small e g m =
-    ap (λ w. bit m (bit_or s w)) (one_shl n 64 small) ∙ bit-or m s (2 ^ n) ∙ ap₂ ◌||◌ (g m) (bit-one m n)
-    ∙ taken_in (bit m b) (f m) m n (λ q. ap f q ∙ e)
-
-pub gather_out : (f : ℕ → Bool) (b n s : ℕ) → f n ≡ false → Gathered f b n s → Gathered f b (n + 1) s
-gather_out f b n s e g m = g m ∙ left_out (bit m b) (f m) m n (λ q. ap f q ∙ e)
-
-pub gather_all : (f : ℕ → Bool) (b n s : ℕ) → ((m : ℕ) → n ≤ m → f m ≡ false) → Gathered f b n s → (m : ℕ) → bit m s ≡ (bit m b || f m)
-gather_all f b n s past g m = g m ∙ ap (λ z. bit m b || z) (cut (f m) m (past m))
+pub gather_in : (R : ℕ → Bool → Type 0) (b n s : ℕ) → n < 64 → R n true → Gathered R b n s → Gathered R b (n + 1) (bit_or s ((1 * 2 ^ n) % 2 ^ 64))
+gather_in R b n s small here g m =
+    let (t, below, above, same) = g m in
+    let bits : bit m (bit_or s ((1 * 2 ^ n) % 2 ^ 64)) ≡ ((bit m b || t) || eqb m n) =
+    ap (λ w. bit m (bit_or s w)) (one_shl n 64 small) ∙ bit-or m s (2 ^ n) ∙ ap₂ ◌||◌ same (bit-one m n) in
+    elim (cases_eq m n) [
+      | inl e ↦ (true, λ _. subst (λ k. R k true) (sym e) here, λ h. absurd (omega arith), bits ∙ now (bit m b) t (above (omega arith)) e)
+      | inr ne ↦ (t, λ h. below (omega arith), λ h. above (omega arith), bits ∙ before (bit m b || t) ne)
+    ]
   where
-    cut : (y : Bool) (m : ℕ) → (n ≤ m → y ≡ false) → (ltb m n && y) ≡ y
-    cut y m h = elim (cases_lt m n) [
-      | inl lt ↦ grind (arith, nat_tests)
-      | inr ge ↦ (let z : y ≡ false = h (omega arith) in grind (arith, nat_tests))
+    now : (x y : Bool) → y ≡ false → m ≡ n → ((x || y) || eqb m n) ≡ (x || true)
+    now x y h e = grind (arith, nat_tests)
+    before : (x : Bool) → (m ≡ n → ⊥) → (x || eqb m n) ≡ x
+    before x ne = grind (arith, nat_tests)
+
+pub gather_out : (R : ℕ → Bool → Type 0) (b n s : ℕ) → R n false → Gathered R b n s → Gathered R b (n + 1) s
+gather_out R b n s here g m =
+    let (t, below, above, same) = g m in
+    elim (cases_eq m n) [
+      | inl e ↦ (t, λ _. subst (λ k. R k t) (sym e) (subst (R n) (sym (above (omega arith))) here), λ h. absurd (omega arith), same)
+      | inr ne ↦ (t, λ h. below (omega arith), λ h. above (omega arith), same)
+    ]
+
+pub gather_all : (R : ℕ → Bool → Type 0) (b n s : ℕ) → ((m : ℕ) → n ≤ m → R m false) → Gathered R b n s → (m : ℕ) → (t : Bool) × R m t × (bit m s ≡ (bit m b || t))
+gather_all R b n s past g m =
+    let (t, below, above, same) = g m in
+    elim (cases_lt m n) [
+      | inl lt ↦ (t, below lt, same)
+      | inr ge ↦ (t, subst (R m) (sym (above ge)) (past m ge), same)
     ]

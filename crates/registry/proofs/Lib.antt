@@ -1,6 +1,5 @@
 mod ClientLaws
 mod Gathering
 mod LinkLaws
-mod NameLaws
 mod NamesLaws
 mod PlaceLaws

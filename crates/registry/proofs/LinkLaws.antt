@@ -1,7 +1,16 @@
-use Rattle.std.proofs.Common.{◌≡◌, ℕ, zero, suc, get_or, replicate, None, Option, refl}
+use Rattle.std.proofs.Common.{◌≡◌, ℕ, zero, suc, Bool, false, get_or, replicate, None, Some, Option, MatchOption, refl, sym, ◌∙◌}
+use Rattle.law.specs.Plain.{Source}
+use Rattle.registry.specs.declared.links.Link.{Link}
+use Rattle.registry.specs.Links.{link_of, source_of}
 
 -- A table of nothing has nothing anywhere.
 pub none_at : {X : Type 0} (k n : ℕ) → get_or (replicate {A = Option X} k None) n None ≡ None
 none_at zero n = refl
 none_at (suc k) zero = refl
 none_at (suc k) (suc n) = none_at k n
+
+-- A test of live links that holds of no missing one, and of a link as each call tells, holds as the call for a number told.
+pub tested : (h : Option Source → Bool) → h None ≡ false → (P : Link → Type 0) → (o : Option Link) (t : Bool) → MatchOption o (t ≡ false) P
+    → ((k : Link) → P k → t ≡ h (Some (link_of k))) → t ≡ h (source_of o)
+tested h z P None t m told = m ∙ sym z
+tested h z P (Some k) t m told = told k m

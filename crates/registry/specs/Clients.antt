@@ -1,10 +1,11 @@
-use Rattle.std.specs.Prelude.{◌≡◌, ℕ, ◌+◌, ◌^◌, Bool, cond, List, [], ◌∷◌, map, length, take, Some, None, Ok, Err, Option, Result, ◌==◌, nat_eq, nat_lt}
+use Rattle.std.specs.Prelude.{◌≡◌, ℕ, ◌+◌, ◌^◌, Bool, cond, List, [], ◌∷◌, map, length, Some, None, Ok, Err, Option, Result, ◌==◌, nat_eq, nat_lt}
 use Rattle.std.specs.Option.{option_map}
 use Rattle.law.specs.Plain.{put, with_new}
 use Rattle.registry.specs.declared.clients.Client.{Client}
 use Rattle.registry.specs.declared.clients.Clients.{Clients}
 use Rattle.registry.specs.declared.clients.ClientRefusal.{ClientRefusal}
 use Rattle.registry.specs.declared.clients.ClientRefusal.TheVariants as no
+use Rattle.registry.specs.FixedLists.{items_of}
 use Rattle.registry.specs.Places.{place_by}
 
 -- The number of each refusal.
@@ -14,7 +15,7 @@ client_refusal no.Full = 5
 
 -- The clients that have inserted.
 abbrev pub clients_of : Clients → List Client
-clients_of s = take s.count s.clients
+clients_of s = items_of s.clients
 
 -- Whether an entry is a client's.
 abbrev pub is_client : ℕ → Client → Bool

@@ -1,4 +1,5 @@
 pub mod Clients
+pub mod FixedLists
 pub mod Links
 pub mod Name
 pub mod Names

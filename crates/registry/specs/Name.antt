@@ -1,6 +1,7 @@
-use Rattle.std.specs.Prelude.{ℕ, List, take}
+use Rattle.std.specs.Prelude.{ℕ, List}
 use Rattle.registry.specs.declared.name.Name.{Name}
+use Rattle.registry.specs.FixedLists.{items_of}
 
--- The bytes of a name: as many of its row as its length says.
+-- The bytes of a name.
 abbrev pub name_of : Name → List ℕ
-name_of n = take n.len n.bytes
+name_of n = items_of n.bytes

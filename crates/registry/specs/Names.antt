@@ -1,10 +1,11 @@
-use Rattle.std.specs.Prelude.{◌≡◌, ℕ, cond, List, map, length, take, Some, None, Ok, Err, Option, Result, nat_lt}
+use Rattle.std.specs.Prelude.{◌≡◌, ℕ, cond, List, map, length, Some, None, Ok, Err, Option, Result, nat_lt}
 use Rattle.std.specs.Str.{bytes_eq}
 use Rattle.record.specs.Names.{name_fine}
 use Rattle.law.specs.Plain.{with_new}
 use Rattle.registry.specs.declared.names.Names.{Names}
 use Rattle.registry.specs.declared.names.OpenRefusal.{OpenRefusal}
 use Rattle.registry.specs.declared.names.OpenRefusal.TheVariants as no
+use Rattle.registry.specs.FixedLists.{items_of}
 use Rattle.registry.specs.Name.{name_of}
 use Rattle.registry.specs.Places.{place_by}
 
@@ -15,7 +16,7 @@ open_refusal no.Full = 2
 
 -- The names of the open lists.
 abbrev pub names_of : Names → List (List ℕ)
-names_of s = take s.count (map name_of s.names)
+names_of s = map name_of (items_of s.names)
 
 -- The number of a known name, or the next number for a new one while fewer than 16 lists are open.
 abbrev pub numbered : List (List ℕ) → Option ℕ → Result ℕ OpenRefusal

@@ -2,6 +2,7 @@
 #![tactic(auto)]
 
 pub mod clients;
+mod fixed_list;
 pub mod links;
 pub mod name;
 pub mod names;

@@ -1,33 +1,24 @@
-use Rattle.std.proofs.Common.{◌≡◌, length, Ok, sym, refl, ap, ◌∙◌, arith}
+use Rattle.std.proofs.Common.{◌≡◌, [], ◌∷◌, ◌++◌, map, None, sym, ap, ◌∙◌, rules}
+use Rattle.std.proofs.lemmas.List.{map-append}
 use Rattle.std.specs.Str.{bytes_eq}
+use Rattle.registry.specs.FixedLists.{items_of}
+use Rattle.registry.specs.Name.{name_of}
 use Rattle.registry.specs.Names.{names_of}
-use Rattle.registry.proofs.PlaceLaws.{known-stays, new_last}
-use Rattle.registry.proofs.NamesLaws.{names_len, name_put, opened-known, opened_new, opened_full, fine_short}
+use Rattle.registry.proofs.NamesLaws.{fine_short}
+use Rattle.registry.proofs.PlaceLaws.{placed}
 use Rattle.registry.proofs.names.Names.open.Goals as goal
 
-pub returns-then-n-ge16 : goal.returns-then-n-ge16
-returns-then-n-ge16 c =
-    let s = c.args.self.now in
-    let len = names_len s.names s.count in
-    record { answer = opened_full c.args.name.now (names_of s) (sym c.if-not-is_name.ensures) c.in-None.ensures (omega arith); names = refl }
+pub returns-in-Some-clause-names : goal.returns-in-Some-clause-names
+returns-in-Some-clause-names c = sym (placed bytes_eq c.args.name.now (names_of c.args.self.now) _ c.in-Some.ensures)
 
-pub returns-in-Some : goal.returns-in-Some
-returns-in-Some c =
-    let s = c.args.self.now in
+pub returns-clause-names : goal.returns-clause-names
+returns-clause-names c =
     let name = c.args.name.now in
-    record {
-      answer = opened-known name (names_of s) c.in-Some.n (sym c.if-not-is_name.ensures) c.in-Some.ensures;
-      names = sym (known-stays bytes_eq name (names_of s) c.in-Some.n (sym c.in-Some.ensures));
-    }
-
-pub returns-else-n-ge16 : goal.returns-else-n-ge16
-returns-else-n-ge16 c =
-    let s = c.args.self.now in
-    let name = c.args.name.now in
-    let len = names_len s.names s.count in
-    let count : length (names_of s) ≡ s.count = omega arith in
-    let fine = sym c.if-not-is_name.ensures in
-    record {
-      answer = ap Ok (sym count) ∙ opened_new name (names_of s) fine c.in-None.ensures (omega arith);
-      names = name_put s.names s.count c.new.result name (omega arith) (c.new.ensures ∙ fine_short name fine) ∙ sym (new_last bytes_eq name (names_of s) (sym c.in-None.ensures));
-    }
+    let names = items_of c.args.self.now.names in
+    let new : name_of c.new.result ≡ name = c.new.ensures ∙ fine_short name (sym c.is_name.ensures ∙ c.if-not-is_name.false) in
+    let pushed : items_of c.push.new.self ≡ names ++ c.new.result ∷ [] = search rules in
+    let none : c.number_of.result ≡ None = search rules in
+    ap (map name_of) pushed
+    ∙ map-append name_of names (c.new.result ∷ [])
+    ∙ ap (λ n. map name_of names ++ n ∷ []) new
+    ∙ sym (placed bytes_eq name (map name_of names) None (sym none ∙ c.number_of.ensures))
