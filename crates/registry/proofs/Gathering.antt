@@ -29,6 +29,7 @@ gather_in R b n s small here g m =
   where
     now : (x y : Bool) → y ≡ false → m ≡ n → ((x || y) || eqb m n) ≡ (x || true)
     now x y h e = grind (arith, nat_tests)
+
     before : (x : Bool) → (m ≡ n → ⊥) → (x || eqb m n) ≡ x
     before x ne = grind (arith, nat_tests)
 

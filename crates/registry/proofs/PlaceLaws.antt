@@ -1,4 +1,4 @@
-use Rattle.std.proofs.Common.{◌≡◌, ℕ, suc, ◌+◌, Bool, true, false, not, cond, ltb, List, [], ◌∷◌, ◌++◌, map, length, Some, None, Option, MatchOption, refl, sym, ap, ◌∙◌, subst, arith}
+use Rattle.std.proofs.Common.{◌≡◌, ℕ, suc, ◌+◌, Bool, true, false, not, cond, ltb, List, [], ◌∷◌, ◌++◌, map, length, Some, None, Option, MatchOption, refl, sym, ap, subst, arith}
 use Rattle.std.specs.Option.{option_map}
 use Rattle.std.specs.List.{position, position_or_len}
 use Rattle.std.proofs.lemmas.Grind.{common_steps}
@@ -29,6 +29,7 @@ placed {X} like x xs o e = subst (λ p. MatchOption p (with_new like x xs ≡ xs
     step true y ys more p h = refl
     step false y ys more None h = ap (λ q. y ∷ q) h
     step false y ys more (Some k) h = ap (λ q. y ∷ q) h
+
     here : (ys : List X) → MatchOption (place_by (like x) ys) (with_new like x ys ≡ ys ++ x ∷ []) (λ _. with_new like x ys ≡ ys)
     here [] = refl
     here (y ∷ ys) = step (like x y) y ys (with_new like x ys) (place_by (like x) ys) (here ys)

@@ -2,8 +2,8 @@ ghost use Rattle.std.specs.Prelude.{◌≡◌, ◌≤◌, ⊤, length};
 
 use std::alloc::AllocError;
 
-/// A list of at most `N` items in fixed memory.
-pub(crate) struct FixedList<T: Copy, const N: usize> {
+/// A list of at most `N` items in fixed memory, where a `Vec` would need a heap.
+pub(crate) struct FixedList<T, const N: usize> {
     items: [T; N],
     len: usize,
     ghost whole: { length items ≡ N },

@@ -3,6 +3,7 @@ ghost use Rattle.std.specs.Prelude.{◌≡◌, length};
 use source::id::Id;
 
 /// A side of a live link: open on its list, or anchored at an id.
+// As an `Option` of an id with its side it would be no plainer: each value would have two layers, as `Some((Before, id))`.
 #[derive(Clone, Copy, PartialEq, Eq, Debug)]
 pub enum Anchor {
     Open,
@@ -40,7 +41,7 @@ impl Links {
         Links { links: [None; 64] }
     }
 
-    /// A link set with the live links added that pass a test.
+    /// A link set, with those live links added that pass a test.
     fn with<F: Fn(&Link) -> bool>(&self, set: u64, passes: F) -> u64
         requires { F.IsAlwaysCallable passes }
         ensures { (n : ℕ) → (t : Bool) × MatchOption (slice_index_or self.now.links n None) (t ≡ false) (λ k. FnReturnsAt F.Fn passes k t) × (bit n result ≡ (bit n set || t)) }
@@ -66,6 +67,7 @@ impl Links {
     ) -> u64
         ensures { (n : ℕ) → bit n result ≡ ((bit n before || starts_here (link_in self.now n) list (option_map plain_id left)) && (bit n after || ends_here (link_in self.now n) list (option_map plain_id right))) }
     {
+        // what sticks in the gap right behind `left`, and in the one right before `right`
         let start = left.map_or(Anchor::Open, Anchor::After);
         let end = right.map_or(Anchor::Open, Anchor::Before);
         let starts = self.with(before, |link| link.list == list && link.start == start);

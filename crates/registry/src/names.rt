@@ -57,8 +57,10 @@ impl Names {
         ensures { result ≡ place_by (bytes_eq name.now) (names_of self.now) }
     {
         let names = self.names.as_slice();
-        let place = names.iter().position(|known| known.is(name));
-        place.map(|n| n as u8)
+        names
+            .iter()
+            .position(|known| known.is(name))
+            .map(|place| place as u8)
     }
 
     /// Opens a list, and tells its number; a known name's its old one.

@@ -1,6 +1,6 @@
 use Rattle.std.proofs.Common.{◌≡◌, [], ◌∷◌, ◌++◌, None, Some, set, sym, ap, ◌∙◌, rules}
 use Rattle.registry.specs.FixedLists.{items_of}
-use Rattle.registry.specs.Clients.{clients_of, raised}
+use Rattle.registry.specs.Clients.{clients_of}
 use Rattle.registry.proofs.ClientLaws.{credited_at}
 use Rattle.registry.proofs.clients.Clients.credit.Goals as goal
 

@@ -1,4 +1,4 @@
-use Rattle.std.proofs.Common.{◌≡◌, ℕ, ◌+◌, ◌<◌, ◌≤◌, Bool, true, false, None, MatchOption, slice_index_or, refl, sym, subst, arith, rules}
+use Rattle.std.proofs.Common.{◌≡◌, ℕ, ◌+◌, Bool, false, None, MatchOption, slice_index_or, refl, sym, subst, arith, rules}
 use Rattle.std.specs.Fn.{FnReturnsAt}
 use Rattle.std.proofs.lemmas.List.{get_or_past}
 use Rattle.registry.proofs.Gathering.{Gathered, gather_in, gather_out, gather_all}

@@ -13,8 +13,8 @@ pub returns : goal.returns
 returns c =
     let known = bytes_eq c.args.name.now in
     let names = items_of c.args.self.now.names in
-    let found : c.position-place.result ≡ place_by known (names_of c.args.self.now) =
-    position_from_yields_List (λ n. known (name_of n)) _ _ c.position-place.result c.position-place.ensures.ran (YieldsList-from_slice names cc) (λ x b q k. search (rules, tests))
+    let found : c.position.result ≡ place_by known (names_of c.args.self.now) =
+    position_from_yields_List (λ n. known (name_of n)) _ _ c.position.result c.position.ensures.ran (YieldsList-from_slice names cc) (λ x b q k. search (rules, tests))
     ∙ place_found (λ n. known (name_of n)) names ∙ place_seen name_of known names in
-    let same : c.map.result ≡ c.position-place.result = search rules in
+    let same : c.map.result ≡ c.position.result = search rules in
     same ∙ found
