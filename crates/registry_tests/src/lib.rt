@@ -7,26 +7,17 @@ mod tests {
     use registry::links::Links;
     use registry::names::{Names, OpenRefusal};
 
-    // The list's number, or 100 and the refusal's.
-    fn opened(r: Result<u8, OpenRefusal>) -> u8 {
-        match r {
-            Ok(n) => n,
-            Err(refusal) => 100 + refusal.number() % 100,
-        }
-    }
-
     #[test]
     fn sixteen_lists(rt: HostRuntime) {
         let mut names = Names::new();
-        let text = b"abcdefghijklmnopq";
-        for i in 0..16usize {
-            assert_eq!(rt; opened(names.open(&text[i..i + 1])) as usize, i);
+        for (number, name) in (0u8..16).zip(b"abcdefghijklmnop".chunks(1)) {
+            assert_eq!(rt; names.open(name), Ok(number));
         }
         // a known name is found with 16 open, a new one refused, and a bad one refused first
-        assert_eq!(rt; opened(names.open(b"c")), 2);
-        assert_eq!(rt; opened(names.open(b"q")), 102);
-        assert_eq!(rt; opened(names.open(b"")), 101);
-        assert_eq!(rt; opened(names.open(b"a\x7f")), 101);
+        assert_eq!(rt; names.open(b"c"), Ok(2));
+        assert_eq!(rt; names.open(b"q").map_err(OpenRefusal::number), Err(2));
+        assert_eq!(rt; names.open(b"").map_err(OpenRefusal::number), Err(1));
+        assert_eq!(rt; names.open(b"a\x7f").map_err(OpenRefusal::number), Err(1));
         assert_eq!(rt; names.number_of(b"p"), Some(15));
         assert_eq!(rt; names.number_of(b"q"), None);
         assert_eq!(rt; names.number_of(b""), None);
@@ -35,11 +26,13 @@ mod tests {
     #[test]
     fn names_of_32_bytes(rt: HostRuntime) {
         let mut names = Names::new();
-        assert_eq!(rt; opened(names.open(b"0123456789abcdef0123456789abcdef")), 0);
-        assert_eq!(rt; opened(names.open(b"0123456789abcdef0123456789abcde")), 1);
+        assert_eq!(rt; names.open(b"0123456789abcdef0123456789abcdef"), Ok(0));
+        assert_eq!(rt; names.open(b"0123456789abcdef0123456789abcde"), Ok(1));
         assert_eq!(rt;
-            opened(names.open(b"0123456789abcdef0123456789abcdef0")),
-            101
+            names
+                .open(b"0123456789abcdef0123456789abcdef0")
+                .map_err(OpenRefusal::number),
+            Err(1)
         );
         assert_eq!(rt;
             names.number_of(b"0123456789abcdef0123456789abcdef"),
@@ -47,28 +40,30 @@ mod tests {
         );
     }
 
-    // 0, or the refusal's number.
-    fn admitted(r: Result<(), ClientRefusal>) -> u8 {
-        match r {
-            Ok(()) => 0,
-            Err(refusal) => refusal.number(),
-        }
-    }
-
     #[test]
     fn sixteen_clients(rt: HostRuntime) {
         let mut clients = Clients::new();
-        assert_eq!(rt; admitted(clients.admit(0x1F_FFFF_FFFF_FFFF)), 0);
-        assert_eq!(rt; admitted(clients.admit(0x20_0000_0000_0000)), 4);
-        for i in 0..16u64 {
-            assert_eq!(rt; clients.credit(i, 5), Some(0));
+        assert_eq!(rt; clients.admit(0x1F_FFFF_FFFF_FFFF), Ok(()));
+        assert_eq!(rt;
+            clients
+                .admit(0x20_0000_0000_0000)
+                .map_err(ClientRefusal::number),
+            Err(4)
+        );
+        for client in 0..16 {
+            assert_eq!(rt; clients.credit(client, 5), Some(0));
         }
         assert_eq!(rt; clients.credit(3, 2), Some(5));
         assert_eq!(rt; clients.count_of(3), 7);
         assert_eq!(rt; clients.count_of(16), 0);
-        assert_eq!(rt; admitted(clients.admit(15)), 0);
-        assert_eq!(rt; admitted(clients.admit(16)), 5);
-        assert_eq!(rt; admitted(clients.admit(0x20_0000_0000_0000)), 4);
+        assert_eq!(rt; clients.admit(15), Ok(()));
+        assert_eq!(rt; clients.admit(16).map_err(ClientRefusal::number), Err(5));
+        assert_eq!(rt;
+            clients
+                .admit(0x20_0000_0000_0000)
+                .map_err(ClientRefusal::number),
+            Err(4)
+        );
         assert_eq!(rt; clients.credit(16, 1), None);
         // clocks have 32 bits
         assert_eq!(rt; clients.credit(3, u32::MAX - 7), Some(7));
