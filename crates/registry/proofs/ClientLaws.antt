@@ -1,41 +1,40 @@
-use Rattle.std.proofs.Common.{◌≡◌, ℕ, suc, ◌+◌, ◌<◌, Bool, true, false, cond, eqb, List, [], ◌∷◌, ◌++◌, map, length, get_or, set, Some, None, Option, MatchOption, sym, refl, ap, subst, arith}
+use Rattle.std.proofs.Common.{◌≡◌, ℕ, suc, ◌+◌, Bool, true, false, cond, eqb, List, [], ◌∷◌, ◌++◌, map, get_or, set, Some, None, Option, MatchOption, sym, refl, ap, subst, arith}
 use Rattle.std.specs.Option.{option_map}
 use Rattle.std.proofs.lemmas.Bool.Decides.{nat_tests}
 use Rattle.law.specs.Plain.{put, with_new}
 use Rattle.registry.specs.declared.clients.Client.{Client}
 use Rattle.registry.specs.Places.{place_by}
-use Rattle.registry.specs.Clients.{is_client, count_in, raised, credited}
+use Rattle.registry.specs.Clients.{is_client, count_in, CountStands, raised, credited}
 
--- A client's count stands at its place; one that stands nowhere has none.
-pub count_at : (c : ℕ) (es : List Client) (o : Option ℕ) → o ≡ place_by (is_client c) es
-    → MatchOption o (count_in c es ≡ 0) (λ k. (k < length es) × ((d : Client) → (get_or es k d).count ≡ count_in c es))
-count_at c es o e = subst (λ p. MatchOption p (count_in c es ≡ 0) (λ k. (k < length es) × ((d : Client) → (get_or es k d).count ≡ count_in c es))) (sym e) (here es)
+-- A client's count stands at its place.
+pub count_at : (c : ℕ) (es : List Client) (o : Option ℕ) → o ≡ place_by (is_client c) es → CountStands es o (count_in c es)
+count_at c es o e = subst (λ p. CountStands es p (count_in c es)) (sym e) (here es)
   where
-    step : (t : Bool) (x : Client) (xs : List Client) (p : Option ℕ) (m : ℕ) → MatchOption p (m ≡ 0) (λ k. (k < length xs) × ((d : Client) → (get_or xs k d).count ≡ m))
-        → MatchOption (cond t (Some 0) (option_map suc p)) (cond t x.count m ≡ 0) (λ k. (k < suc (length xs)) × ((d : Client) → (get_or (x ∷ xs) k d).count ≡ cond t x.count m))
+    step : (t : Bool) (x : Client) (xs : List Client) (p : Option ℕ) (m : ℕ) → CountStands xs p m
+        → CountStands (x ∷ xs) (cond t (Some 0) (option_map suc p)) (cond t x.count m)
     step true x xs p m h = (omega arith, λ d. refl)
     step false x xs None m h = h
     step false x xs (Some k) m h = (omega (arith, h.0), h.1)
 
-    here : (xs : List Client) → MatchOption (place_by (is_client c) xs) (count_in c xs ≡ 0) (λ k. (k < length xs) × ((d : Client) → (get_or xs k d).count ≡ count_in c xs))
+    here : (xs : List Client) → CountStands xs (place_by (is_client c) xs) (count_in c xs)
     here [] = refl
     here (x ∷ xs) = step (is_client c x) x xs (place_by (is_client c) xs) (count_in c xs) (here xs)
 
--- A credit raises a client's entry at its place, and puts a new one last.
-pub credited_at : (c n : ℕ) (es : List Client) (o : Option ℕ) → o ≡ place_by (is_client c) es
-    → MatchOption o (credited c n es ≡ es ++ record { number = c; count = n } ∷ []) (λ k. (d : Client) → credited c n es ≡ set es k (raised n (get_or es k d)))
-credited_at c n es o e =
-    subst (λ p. MatchOption p (credited c n es ≡ es ++ record { number = c; count = n } ∷ []) (λ k. (d : Client) → credited c n es ≡ set es k (raised n (get_or es k d)))) (sym e) (here es)
+-- The list more has the entry at a place raised, or has a new one last.
+abbrev pub Raises : ℕ → ℕ → List Client → Option ℕ → List Client → Type 0
+Raises c n es o more = MatchOption o (more ≡ es ++ record { number = c; count = n } ∷ []) (λ k. (d : Client) → more ≡ set es k (raised n (get_or es k d)))
+
+-- So does a credit, by its client's place.
+pub credited_at : (c n : ℕ) (es : List Client) (o : Option ℕ) → o ≡ place_by (is_client c) es → Raises c n es o (credited c n es)
+credited_at c n es o e = subst (λ p. Raises c n es p (credited c n es)) (sym e) (here es)
   where
-    step : (t : Bool) (x : Client) (xs more : List Client) (p : Option ℕ)
-        → MatchOption p (more ≡ xs ++ record { number = c; count = n } ∷ []) (λ k. (d : Client) → more ≡ set xs k (raised n (get_or xs k d)))
-        → MatchOption (cond t (Some 0) (option_map suc p)) (cond t (raised n x ∷ xs) (x ∷ more) ≡ x ∷ (xs ++ record { number = c; count = n } ∷ []))
-        (λ k. (d : Client) → cond t (raised n x ∷ xs) (x ∷ more) ≡ set (x ∷ xs) k (raised n (get_or (x ∷ xs) k d)))
+    step : (t : Bool) (x : Client) (xs more : List Client) (p : Option ℕ) → Raises c n xs p more
+        → Raises c n (x ∷ xs) (cond t (Some 0) (option_map suc p)) (cond t (raised n x ∷ xs) (x ∷ more))
     step true x xs more p h = λ d. refl
     step false x xs more None h = ap (λ q. x ∷ q) h
     step false x xs more (Some k) h = λ d. ap (λ q. x ∷ q) (h d)
 
-    here : (xs : List Client) → MatchOption (place_by (is_client c) xs) (credited c n xs ≡ xs ++ record { number = c; count = n } ∷ []) (λ k. (d : Client) → credited c n xs ≡ set xs k (raised n (get_or xs k d)))
+    here : (xs : List Client) → Raises c n xs (place_by (is_client c) xs) (credited c n xs)
     here [] = refl
     here (x ∷ xs) = step (is_client c x) x xs (credited c n xs) (place_by (is_client c) xs) (here xs)
 

@@ -1,4 +1,4 @@
-use Rattle.std.proofs.Common.{◌≡◌, ℕ, ◌+◌, ◌*◌, ◌%◌, ◌^◌, ◌<◌, ◌≤◌, Bool, true, false, ◌||◌, eqb, refl, sym, ap, ◌∙◌, subst, ap₂, inl, inr, arith}
+use Rattle.std.proofs.Common.{◌≡◌, ℕ, ◌+◌, ◌*◌, ◌%◌, ◌^◌, ◌<◌, ◌≤◌, Bool, true, false, ◌||◌, eqb, sym, ap, ◌∙◌, subst, ap₂, inl, inr, arith}
 use lib.Bits.{bit_or}
 use Rattle.std.proofs.lemmas.Bool.{cases_eq, cases_lt}
 use Rattle.std.proofs.lemmas.Bool.Decides.{nat_tests}
@@ -9,13 +9,6 @@ use Rattle.law.proofs.Bits.{bit-or, bit-one}
 -- Each bit m of s is that of b, or is added: below n as R m tells, and from n on not at all.
 abbrev pub Gathered : (ℕ → Bool → Type 0) → ℕ → ℕ → ℕ → Type 0
 Gathered R b n s = (m : ℕ) → (t : Bool) × (m < n → R m t) × (n ≤ m → t ≡ false) × (bit m s ≡ (bit m b || t))
-
-or_false : (x : Bool) → x ≡ (x || false)
-or_false true = refl
-or_false false = refl
-
-pub gather_start : (R : ℕ → Bool → Type 0) (b : ℕ) → Gathered R b 0 b
-gather_start R b m = (false, λ h. absurd (omega arith), λ _. refl, or_false (bit m b))
 
 pub gather_in : (R : ℕ → Bool → Type 0) (b n s : ℕ) → n < 64 → R n true → Gathered R b n s → Gathered R b (n + 1) (bit_or s ((1 * 2 ^ n) % 2 ^ 64))
 gather_in R b n s small here g m =

@@ -9,7 +9,7 @@ none_at zero n = refl
 none_at (suc k) zero = refl
 none_at (suc k) (suc n) = none_at k n
 
--- A test of live links that holds of no missing one, and of a link as each call tells, holds as the call for a number told.
+-- What h says of the link of a number is what a call told of it, or false where there is none.
 pub tested : (h : Option Source → Bool) → h None ≡ false → (P : Link → Type 0) → (o : Option Link) (t : Bool) → MatchOption o (t ≡ false) P
     → ((k : Link) → P k → t ≡ h (Some (link_of k))) → t ≡ h (source_of o)
 tested h z P None t m told = m ∙ sym z

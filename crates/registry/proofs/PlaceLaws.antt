@@ -20,16 +20,20 @@ pub place_seen : {X Y : Type 0} (f : X → Y) (test : Y → Bool) (xs : List X) 
 place_seen f test [] = refl
 place_seen f test (x ∷ xs) = ap (λ o. cond (test (f x)) (Some 0) (option_map suc o)) (place_seen f test xs)
 
+-- The list more has x last, or where x has a place is the old one.
+abbrev pub Adds : {X : Type 0} → X → List X → Option ℕ → List X → Type 0
+Adds x xs o more = MatchOption o (more ≡ xs ++ x ∷ []) (λ _. more ≡ xs)
+
 -- What is known stays where it is, and what is new comes last.
-pub placed : {X : Type 0} (like : X → X → Bool) (x : X) (xs : List X) (o : Option ℕ) → o ≡ place_by (like x) xs → MatchOption o (with_new like x xs ≡ xs ++ x ∷ []) (λ _. with_new like x xs ≡ xs)
-placed {X} like x xs o e = subst (λ p. MatchOption p (with_new like x xs ≡ xs ++ x ∷ []) (λ _. with_new like x xs ≡ xs)) (sym e) (here xs)
+pub placed : {X : Type 0} (like : X → X → Bool) (x : X) (xs : List X) (o : Option ℕ) → o ≡ place_by (like x) xs → Adds x xs o (with_new like x xs)
+placed {X} like x xs o e = subst (λ p. Adds x xs p (with_new like x xs)) (sym e) (here xs)
   where
-    step : (t : Bool) (y : X) (ys more : List X) (p : Option ℕ) → MatchOption p (more ≡ ys ++ x ∷ []) (λ _. more ≡ ys)
-        → MatchOption (cond t (Some 0) (option_map suc p)) (cond t (y ∷ ys) (y ∷ more) ≡ y ∷ (ys ++ x ∷ [])) (λ _. cond t (y ∷ ys) (y ∷ more) ≡ y ∷ ys)
+    step : (t : Bool) (y : X) (ys more : List X) (p : Option ℕ) → Adds x ys p more
+        → Adds x (y ∷ ys) (cond t (Some 0) (option_map suc p)) (cond t (y ∷ ys) (y ∷ more))
     step true y ys more p h = refl
     step false y ys more None h = ap (λ q. y ∷ q) h
     step false y ys more (Some k) h = ap (λ q. y ∷ q) h
 
-    here : (ys : List X) → MatchOption (place_by (like x) ys) (with_new like x ys ≡ ys ++ x ∷ []) (λ _. with_new like x ys ≡ ys)
+    here : (ys : List X) → Adds x ys (place_by (like x) ys) (with_new like x ys)
     here [] = refl
     here (y ∷ ys) = step (like x y) y ys (with_new like x ys) (place_by (like x) ys) (here ys)

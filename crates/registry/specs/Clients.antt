@@ -1,4 +1,4 @@
-use Rattle.std.specs.Prelude.{◌≡◌, ℕ, ◌+◌, ◌^◌, Bool, cond, List, [], ◌∷◌, map, length, Some, None, Ok, Err, Option, Result, ◌==◌, nat_eq, nat_lt}
+use Rattle.std.specs.Prelude.{◌≡◌, ℕ, ◌+◌, ◌^◌, ◌<◌, Bool, cond, List, [], ◌∷◌, map, length, Some, None, Ok, Err, Option, MatchOption, Result, slice_index_or, ◌==◌, nat_eq, nat_lt}
 use Rattle.std.specs.Option.{option_map}
 use Rattle.law.specs.Plain.{put, with_new}
 use Rattle.registry.specs.declared.clients.Client.{Client}
@@ -25,6 +25,10 @@ is_client c e = c == e.number
 abbrev pub count_in : ℕ → List Client → ℕ
 count_in c [] = 0
 count_in c (e ∷ es) = cond (is_client c e) e.count (count_in c es)
+
+-- A count stands at a place of the list; where there is no place, it is 0.
+abbrev pub CountStands : List Client → Option ℕ → ℕ → Type 0
+CountStands es o m = MatchOption o (m ≡ 0) (λ k. (k < length es) × ((d : Client) → (slice_index_or es k d).count ≡ m))
 
 -- Whether a known client, or a new one beside so many, may insert.
 abbrev pub seated : ℕ → Option ℕ → Result (Unit {0}) ClientRefusal

@@ -1,6 +1,6 @@
-ghost use Rattle.std.specs.Prelude.{◌≡◌, ◌<◌, [], length, MatchOption, slice_index_or};
+ghost use Rattle.std.specs.Prelude.{◌≡◌, []};
 ghost use Rattle.registry.specs.Places.{place_by};
-ghost use Rattle.registry.specs.Clients.{client_refusal, clients_of, is_client, count_in, admitted, clock_of, Crediting, Credit};
+ghost use Rattle.registry.specs.Clients.{client_refusal, clients_of, is_client, count_in, CountStands, admitted, clock_of, Crediting, Credit};
 
 use crate::fixed_list::FixedList;
 
@@ -55,7 +55,7 @@ impl Clients {
     /// Where a client stands, with its count; one that stands nowhere has inserted nothing.
     fn place_of(&self, client: u64) -> Option<usize>
         ensures place { result ≡ place_by (is_client client) (clients_of self.now) }
-        ensures count { MatchOption result (count_in client (clients_of self.now) ≡ 0) (λ n. (n < length (clients_of self.now)) × ((d : _) → (slice_index_or (clients_of self.now) n d).count ≡ count_in client (clients_of self.now))) }
+        ensures count { CountStands (clients_of self.now) result (count_in client (clients_of self.now)) }
     {
         let clients = self.clients.as_slice();
         clients.iter().position(|known| known.number == client)
