@@ -1,4 +1,4 @@
-use Rattle.std.specs.Prelude.{ℕ, None, Option, slice_index_or}
+use Rattle.std.specs.Prelude.{◌≡◌, ℕ, Bool, false, None, Option, MatchOption, slice_index_or}
 use Rattle.std.specs.Option.{option_map}
 use Rattle.source.specs.declared.id.Id.{Id}
 use Rattle.law.specs.Plain as plain
@@ -25,3 +25,7 @@ source_of o = option_map link_of o
 -- The live link of a number, if it has one.
 abbrev pub link_in : Links → ℕ → Option plain.Source
 link_in s n = source_of (slice_index_or s.links n None)
+
+-- What a test, whose calls may answer as P says, tells of a number: the answer for its live link, or false where it has none.
+abbrev pub Tells : Links → (Link → Bool → Type 0) → ℕ → Bool → Type 0
+Tells s P n t = MatchOption (slice_index_or s.links n None) (t ≡ false) (λ k. P k t)

@@ -27,12 +27,12 @@ pub struct Links {
 }
 
 impl Links {
-    ghost use Rattle.std.specs.Prelude.{ℕ, Bool, false, ◌&&◌, ◌||◌, None, MatchOption, slice_index_or};
+    ghost use Rattle.std.specs.Prelude.{ℕ, Bool, ◌&&◌, ◌||◌, None};
     ghost use Rattle.std.specs.Fn.{FnReturnsAt};
     ghost use Rattle.std.specs.Option.{option_map};
     ghost use Rattle.law.specs.Faces.{bit};
     ghost use Rattle.law.specs.Joins.{starts_here, ends_here};
-    ghost use Rattle.registry.specs.Links.{plain_id, link_in};
+    ghost use Rattle.registry.specs.Links.{plain_id, link_in, Tells};
 
     /// None is live.
     pub fn new() -> Links
@@ -44,7 +44,7 @@ impl Links {
     /// A link set, with those live links added that pass a test.
     fn with<F: Fn(&Link) -> bool>(&self, set: u64, passes: F) -> u64
         requires { F.IsAlwaysCallable passes }
-        ensures { (n : ℕ) → (t : Bool) × MatchOption (slice_index_or self.now.links n None) (t ≡ false) (λ k. FnReturnsAt F.Fn passes k t) × (bit n result ≡ (bit n set || t)) }
+        ensures { (n : ℕ) → (t : Bool) × Tells self.now (FnReturnsAt F.Fn passes) n t × (bit n result ≡ (bit n set || t)) }
     {
         let mut all = set;
         for (n, link) in self.links.iter().enumerate() {

@@ -1,13 +1,14 @@
-use Rattle.std.proofs.Common.{◌≡◌, ℕ, ◌+◌, Bool, false, None, MatchOption, slice_index_or, refl, sym, subst, arith, rules}
+use Rattle.std.proofs.Common.{ℕ, ◌+◌, Bool, None, refl, sym, subst, arith, rules}
 use Rattle.std.specs.Fn.{FnReturnsAt}
 use Rattle.std.proofs.lemmas.List.{get_or_past}
+use Rattle.registry.specs.Links.{Tells}
 use Rattle.registry.proofs.Gathering.{Gathered, gather_in, gather_out, gather_all}
 use Rattle.registry.proofs.links.Links.with.Goals as goal
 use Rattle.registry.proofs.links.Links.with.Goals.{in-Some, in_default-2, in_default, then-matches, else-matches}
 
 pub loop-n-preserved : goal.loop-n-preserved
 loop-n-preserved g c =
-    let R : ℕ → Bool → Type 0 = λ m t. MatchOption (slice_index_or c.args.self.now.links m None) (t ≡ false) (λ k. FnReturnsAt g.F.Fn c.args.passes k t) in
+    let R : ℕ → Bool → Type 0 = Tells c.args.self.now (FnReturnsAt g.F.Fn c.args.passes) in
     let n = c.loop-n.n in
     let here : R n c.match-matches.matches =
     elim c.match-matches.branch [
@@ -22,5 +23,5 @@ loop-n-preserved g c =
 
 pub returns : goal.returns
 returns g c =
-    let R : ℕ → Bool → Type 0 = λ m t. MatchOption (slice_index_or c.args.self.now.links m None) (t ≡ false) (λ k. FnReturnsAt g.F.Fn c.args.passes k t) in
-    gather_all R c.args.set c.loop-n.n c.loop-n.all (λ m ge. rw (get_or_past c.args.self.now.links m None (omega arith)) refl) c.loop-n.invariant
+    let s = c.args.self.now in
+    gather_all (Tells s (FnReturnsAt g.F.Fn c.args.passes)) c.args.set c.loop-n.n c.loop-n.all (λ m ge. rw (get_or_past s.links m None (omega arith)) refl) c.loop-n.invariant
