@@ -10,8 +10,7 @@ pub(crate) struct FixedList<T, const N: usize> {
     ghost within: { len ≤ N },
 }
 
-impl<T: Copy, const N: usize> Copy for FixedList<T, N> {}
-
+// By hand, since `Clone` has no derive for a struct that has both a type parameter and ghost fields.
 impl<T: Copy, const N: usize> Clone for FixedList<T, N> {
     ghost is_clone = { λ x y. y ≡ x };
 
@@ -21,6 +20,8 @@ impl<T: Copy, const N: usize> Clone for FixedList<T, N> {
         Ok(*self)
     }
 }
+
+impl<T: Copy, const N: usize> Copy for FixedList<T, N> {}
 
 impl<T: Copy, const N: usize> FixedList<T, N> {
     ghost use Rattle.std.specs.Prelude.{◌<◌, ◌==◌, [], ◌∷◌, ◌++◌, take, slice_set, MatchOption};
