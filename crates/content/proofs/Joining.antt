@@ -1,7 +1,7 @@
 -- The pieces of a content make the whole, from the laws alone.
-use Rattle.std.proofs.Common.{◌≡◌, ℕ, ◌+◌, ◌-◌, ◌<◌, ◌≤◌, true, ◌&&◌, ltb, List, [], ◌∷◌, ◌++◌, map, length, get_or, take, drop, set, sym, ap, ◌∙◌, subst, ap₂, add-zero, arith, ltb-true}
+use Rattle.std.proofs.Common.{◌≡◌, ℕ, ◌+◌, ◌-◌, ◌<◌, ◌≤◌, true, ◌&&◌, ltb, List, [], ◌∷◌, ◌++◌, map, length, take, drop, set, sym, ap, ◌∙◌, ap₂, add-zero, arith, ltb-true}
 use Rattle.std.specs.List.{flat_map}
-use Rattle.std.proofs.lemmas.List.{append_assoc, append-nil, drop_more, drop_all, take_more_set, take_all, length-set}
+use Rattle.std.proofs.lemmas.List.{append-nil, drop_all, take_more_set, take_all, length-set}
 use Rattle.std.proofs.lemmas.Bool.{and_parts}
 use Rattle.content.specs.declared.content.Content.{Ghosts}
 use Rattle.content.specs.Lawful.{Lawful}
@@ -57,32 +57,6 @@ pub record Cutting {C : Type 0} (K : Ghosts C) (c : C) (ks : List ℕ) (i : ℕ)
   pub exact : take i ps ++ cut_up K done (drop i ks) rest ≡ cut_up K 0 ks c
 
 module _ {C : Type 0} (K : Ghosts C) (c : C) (ks : List ℕ) (i : ℕ) (rest : C) (done : ℕ) (ps : List C) (w : Cutting K c ks i rest done ps) where
-  pub next : i < length ks → (done < get_or ks i 0) × (get_or ks i 0 < K.size c) × (rising (get_or ks i 0) (drop (i + 1) ks) (K.size c) ≡ true)
-  next lt = rising_first done (get_or ks i 0) (K.size c) (drop (i + 1) ks) (subst (λ (xs : List ℕ). rising done xs (K.size c) ≡ true) (drop_more ks i 0 lt) w.rise)
-
-  pub more : Lawful K → i < length ks → i < length ps
-      → Cutting K c ks (i + 1) (K.rear (get_or ks i 0 - done) rest) (get_or ks i 0) (set ps i (K.fore (get_or ks i 0 - done) rest))
-  more L lt in-ps =
-      let k = get_or ks i 0 in
-      let n = next lt in
-      let p = K.fore (k - done) rest in
-      let q = K.rear (k - done) rest in
-      let sizes = w.sizes in
-      let low : 0 < k - done = omega arith in
-      let high : k - done < K.size rest = omega arith in
-      let half = L.halves (k - done) rest low high in
-      let front : K.size p ≡ k - done = half.front in
-      let sums : K.size p + K.size q ≡ K.size rest = half.sums in
-      record {
-        rise = n.2;
-        sizes = omega arith;
-        exact =
-            ap (λ xs. xs ++ cut_up K k (drop (i + 1) ks) q) (take_more_set ps i p in-ps)
-            ∙ append_assoc (take i ps) (p ∷ []) (cut_up K k (drop (i + 1) ks) q)
-            ∙ ap (λ xs. take i ps ++ cut_up K done xs rest) (sym (drop_more ks i 0 lt))
-            ∙ w.exact;
-      }
-
   -- All are cut, and the rest is the last piece.
   pub all_cut : length ks ≤ i → length ps ≡ i + 1 → set ps i rest ≡ cut_up K 0 ks c
   all_cut le e =

@@ -9,11 +9,11 @@ fn rises(offsets: &[u32], len: u32) -> bool
     ensures { result ≡ rising 0 offsets.now len }
 {
     let mut low = 0;
-    for k in offsets {
-        if *k <= low || *k >= len {
+    for &k in offsets {
+        if k <= low || k >= len {
             return false;
         }
-        low = *k;
+        low = k;
     }
     true
 }
@@ -26,11 +26,11 @@ fn cut_each<C: Content>(content: &C, offsets: &[u32], pieces: &mut [C])
 {
     let mut rest = *content;
     let mut done = 0;
-    for i in 0..offsets.len() {
-        let (piece, others) = rest.cut(offsets[i] - done);
+    for (i, &k) in offsets.iter().enumerate() {
+        let (piece, others) = rest.cut(k - done);
         pieces[i] = piece;
         rest = others;
-        done = offsets[i];
+        done = k;
     }
     pieces[offsets.len()] = rest;
 }

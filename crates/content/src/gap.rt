@@ -6,7 +6,7 @@ ghost use Rattle.std.proofs.Common.{ap, ◌∙◌, arith, rules};
 use crate::content::Content;
 
 /// As many uncountable units 0 as `len` says.
-#[derive(Clone, Copy)]
+#[derive(Clone, Copy, PartialEq, Eq, Debug)]
 pub struct Gap {
     pub len: u32,
 }
@@ -54,7 +54,7 @@ impl Content for Gap {
     }
 
     fn unit(&self, _words: &[u64], offset: u32) -> Option<u64> {
-        if offset < self.len { Some(0) } else { None }
+        (offset < self.len).then_some(0)
     }
 
     fn cut(&self, k: u32) -> (Gap, Gap) {

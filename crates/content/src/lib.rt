@@ -7,4 +7,5 @@ pub mod cutting;
 pub mod gap;
 pub mod mark;
 pub mod mix;
+pub mod run;
 pub mod text_run;

@@ -5,7 +5,7 @@ ghost use Rattle.std.proofs.Common.{rules};
 use crate::content::Content;
 
 /// One uncountable unit.
-#[derive(Clone, Copy)]
+#[derive(Clone, Copy, PartialEq, Eq, Debug)]
 pub struct Mark {
     pub unit: u64,
 }
@@ -42,7 +42,7 @@ impl Content for Mark {
     }
 
     fn unit(&self, _words: &[u64], offset: u32) -> Option<u64> {
-        if offset == 0 { Some(self.unit) } else { None }
+        (offset == 0).then_some(self.unit)
     }
 
     // No k lies between 0 and the length 1, so that this asks nothing: at any k each piece is the mark itself.

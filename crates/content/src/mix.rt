@@ -5,8 +5,9 @@ ghost use Rattle.std.proofs.Common.{rules};
 
 use crate::content::Content;
 
+// No `Result`, though of its shape: its names would say that a content of the other kind is an error.
 /// A content of the one kind or of the other.
-#[derive(Clone, Copy)]
+#[derive(Clone, Copy, PartialEq, Eq, Debug)]
 pub enum Mix<A, B> {
     One(A),
     Other(B),

@@ -1,5 +1,4 @@
-use Rattle.std.proofs.Common.{◌≡◌, ◌+◌, true, eqb, length, sym, eq-eqb}
-use Rattle.std.proofs.lemmas.Bool.{and_from}
+use Rattle.std.proofs.Common.{◌≡◌, true, rules}
 use Rattle.content.specs.Lawful.{Lawful}
 use Rattle.content.specs.Pieces.{rising}
 use Rattle.content.proofs.Joining.{all_sized, all_whole}
@@ -10,16 +9,12 @@ returns g c =
     let K = g.C.Content in
     let x = c.args.content.now in
     let ks = c.args.offsets.now in
-    let n = K.size x in
-    let ps = c.cut_each.new.pieces in
-    let room = length c.args.pieces.now in
-    let laws : Lawful K =
-    record { sized = g.met.C.Content.sized; steady = g.met.C.Content.steady; halves = g.met.C.Content.halves } in
+    let laws : Lawful K = record { sized = g.met.C.Content.sized; steady = g.met.C.Content.steady; halves = g.met.C.Content.halves } in
     let rose = c.if-not-rises.ensures in
-    let up : rising 0 ks n ≡ true = cc in
+    let up : rising 0 ks (K.size x) ≡ true = cc in
     record {
-      answer = sym (and_from (rising 0 ks n) (eqb room (length ks + 1)) up (eq-eqb room (length ks + 1) c.if-pieces-offsets.false));
+      answer = search rules;
       written = c.cut_each.ensures;
-      sized = λ _. all_sized K laws x ks up ps c.cut_each.ensures;
-      whole = λ _. all_whole K laws x ks up ps c.cut_each.ensures;
+      sized = λ _. all_sized K laws x ks up c.cut_each.new.pieces c.cut_each.ensures;
+      whole = λ _. all_whole K laws x ks up c.cut_each.new.pieces c.cut_each.ensures;
     }
