@@ -1,6 +1,7 @@
 -- What a making is tested for, and words appended to the used ones.
-use Rattle.std.proofs.Common.{◌≡◌, ℕ, ◌+◌, ◌<◌, ◌≤◌, Bool, false, List, [], ◌++◌, length, take, drop, replicate, None, sym, ap, ◌∙◌, add-zero, arith}
-use Rattle.std.proofs.lemmas.List.{take-append-drop, length-take-le, take_at, append_assoc, length-append, length-replicate}
+use Rattle.std.proofs.Common.{◌≡◌, ℕ, ◌+◌, ◌-◌, ◌<◌, ◌≤◌, Bool, false, List, [], ◌++◌, length, take, drop, replicate, None, sym, ap, ap₂, ◌∙◌, add-zero, arith}
+use borrow.Rule.Slice.PartMut.{put_mid}
+use Rattle.std.proofs.lemmas.List.{drop-drop, take-append-drop, length-take-le, take_at, append_assoc, length-append, length-replicate}
 use Rattle.std.proofs.lemmas.Bool.Decides.{nat_tests}
 use Rattle.making.specs.Verdicts.{free, verdict}
 use Rattle.making.specs.Recipes.{appended}
@@ -15,6 +16,12 @@ verdict_replicate n u len used = ap (λ k. verdict k false 0 len used) (sym (len
 
 pub appended-none : (ws : List ℕ) (used : ℕ) → ws ≡ appended ws used []
 appended-none ws used = sym (ap (λ n. take used ws ++ drop n ws) (add-zero used) ∙ take-append-drop used ws)
+
+-- A table whose places from the used ones on were written with more.
+pub written : (ws more new : List ℕ) (used n : ℕ) → new ≡ more → n ≡ length more → put_mid used (used + n - used) ws new ≡ appended ws used more
+written ws more new used n is count =
+    let k : used + n - used ≡ length more = omega arith in
+    ap₂ (λ ys k. put_mid used k ws ys) is k ∙ ap (λ zs. take used ws ++ (more ++ zs)) (drop-drop (length more) used ws)
 
 module _ (ws more : List ℕ) (used : ℕ) (le : used ≤ length ws) where
   long : length (take used ws ++ more) ≡ used + length more

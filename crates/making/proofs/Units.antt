@@ -1,7 +1,7 @@
 -- The units that were appended are read back.
-use Rattle.std.proofs.Common.{◌≡◌, ℕ, zero, suc, ◌+◌, ◌-◌, ◌*◌, ◌/◌, ◌%◌, ◌^◌, ◌<◌, ◌≤◌, List, [], ◌∷◌, ◌++◌, map, length, get_or, take, drop, set, sym, refl, ap, ◌∙◌, ap₂, add-zero, arith}
+use Rattle.std.proofs.Common.{◌≡◌, ℕ, zero, suc, ◌+◌, ◌-◌, ◌*◌, ◌/◌, ◌%◌, ◌^◌, ◌<◌, List, [], ◌∷◌, ◌++◌, map, length, get_or, drop, set, sym, refl, ap, ◌∙◌, ap₂, add-zero, arith}
 use Rattle.std.specs.List.{range_with_len}
-use Rattle.std.proofs.lemmas.List.{append_assoc, length-append, length-take-le, set_at, drop_more, ext_get_or, get_or-append_right}
+use Rattle.std.proofs.lemmas.List.{append_assoc, set_at, drop_more, ext_get_or, get_or-append_right}
 use Rattle.std.proofs.lemmas.List.FromFn.{length-map-range_with_len, get_or-map-range_with_len, map-range_with_len_more}
 use Rattle.content.specs.Runs.{run, word_at, slot, code_unit}
 use Rattle.making.specs.Packed.{packed_at, words_of, packed}
@@ -22,22 +22,14 @@ words_back p us a e =
     (λ i lt. let at : a + i - a ≡ i = omega arith in get_or-append_right p us a (a + i) 0 e (omega arith) ∙ ap (λ k. get_or us k 0) at)
 
 -- One more word.
-pub pack_more : (ws : List ℕ) (f : ℕ → ℕ) (a k : ℕ) → a + k < length ws
-    → set (take a ws ++ (map f (range_with_len 0 k) ++ drop (a + k) ws)) (a + k) (f k) ≡ take a ws ++ (map f (range_with_len 0 (k + 1)) ++ drop (a + (k + 1)) ws)
-pack_more ws f a k lt =
-    let p = take a ws in
+pub pack_more : (ws : List ℕ) (f : ℕ → ℕ) (k : ℕ) → k < length ws → set (map f (range_with_len 0 k) ++ drop k ws) k (f k) ≡ map f (range_with_len 0 (k + 1)) ++ drop (k + 1) ws
+pack_more ws f k lt =
     let q = map f (range_with_len 0 k) in
-    let y = get_or ws (a + k) 0 in
-    let rest = drop (a + k + 1) ws in
-    let le : a ≤ length ws = omega arith in
-    let long : length (p ++ q) ≡ a + k = length-append p q ∙ ap₂ (λ m n. m + n) (length-take-le a ws le) (length-map-range_with_len f 0 k) in
-    let next : a + k + 1 ≡ a + (k + 1) = omega arith in
-    ap (λ zs. set (p ++ (q ++ zs)) (a + k) (f k)) (drop_more ws (a + k) 0 lt)
-    ∙ ap (λ zs. set zs (a + k) (f k)) (sym (append_assoc p q (y ∷ rest)))
-    ∙ set_at (p ++ q) y rest (f k) (a + k) long
-    ∙ append_assoc p q (f k ∷ rest)
-    ∙ ap (λ zs. p ++ zs) (sym (append_assoc q (f k ∷ []) rest))
-    ∙ ap₂ (λ xs n. p ++ (xs ++ drop n ws)) (sym (map-range_with_len_more f 0 k k (omega arith))) next
+    let rest = drop (k + 1) ws in
+    ap (λ zs. set (q ++ zs) k (f k)) (drop_more ws k 0 lt)
+    ∙ set_at q (get_or ws k 0) rest (f k) k (length-map-range_with_len f 0 k)
+    ∙ sym (append_assoc q (f k ∷ []) rest)
+    ∙ ap (λ xs. xs ++ rest) (sym (map-range_with_len_more f 0 k k (omega arith)))
 
 pub length-packed : (us : List ℕ) → length (packed us) ≡ words_of (length us)
 length-packed us = length-map-range_with_len (λ k. packed_at us (4 * k)) 0 (words_of (length us))

@@ -1,6 +1,6 @@
 -- Packing 16-bit units, four to a word.
-use Rattle.std.specs.Prelude.{ℕ, ◌+◌, ◌*◌, ◌/◌, ◌^◌, Bool, false, ◌&&◌, ◌||◌, List, [], ◌∷◌, map, length, nat_le, nat_lt, slice_index}
-use Rattle.std.specs.List.{range_with_len}
+use Rattle.std.specs.Prelude.{ℕ, ◌+◌, ◌*◌, ◌/◌, ◌^◌, Bool, ◌&&◌, List, map, length, nat_le, nat_lt, slice_index}
+use Rattle.std.specs.List.{list_any, range_with_len}
 
 -- The word of the four units from i on, the first in the low bits, 0 for each that there is not.
 abbrev pub packed_at : List ℕ → ℕ → ℕ
@@ -20,5 +20,4 @@ surrogate u = nat_le 0xD800 u && nat_lt u 0xE000
 
 -- Whether one of the units is.
 abbrev pub surrogates : List ℕ → Bool
-surrogates [] = false
-surrogates (u ∷ us) = surrogate u || surrogates us
+surrogates us = list_any surrogate us

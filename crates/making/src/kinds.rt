@@ -6,7 +6,6 @@ ghost use Rattle.making.specs.Packed.{packed, surrogates};
 use crate::make::{Made, Make};
 use crate::packing::{has_surrogate, pack};
 use crate::refusal::{Refusal, judge};
-use crate::word_table::append;
 use content::clip_run::ClipRun;
 use content::content::Content;
 use content::gap::Gap;
@@ -47,7 +46,8 @@ impl<'a> Make<&'a [u64]> for ClipRun {
     fn make(recipe: &'a [u64], words: &mut [u64], used: u32) -> Result<Made<ClipRun>, Refusal> {
         let n = recipe.len();
         judge(n, false, n, words.len(), used)?;
-        append(recipe, words, used);
+        let at = used as usize;
+        words[at..at + n].copy_from_slice(recipe);
         let to = used + n as u32;
         Ok(Made {
             content: ClipRun { from: used, to },
@@ -62,9 +62,10 @@ impl<'a> Make<&'a [u16]> for TextRun {
 
     fn make(recipe: &'a [u16], words: &mut [u64], used: u32) -> Result<Made<TextRun>, Refusal> {
         let n = recipe.len();
-        let m = (n + 3) / 4;
+        let m = n.div_ceil(4);
         judge(n, has_surrogate(recipe), m, words.len(), used)?;
-        pack(recipe, words, used);
+        let at = used as usize;
+        pack(recipe, &mut words[at..at + m]);
         let from = 4 * used;
         Ok(Made {
             content: TextRun {
@@ -83,17 +84,17 @@ impl<R, S, A: Make<R>, B: Make<S>> Make<Mix<R, S>> for Mix<A, B> {
     fn make(recipe: Mix<R, S>, words: &mut [u64], used: u32) -> Result<Made<Mix<A, B>>, Refusal> {
         match recipe {
             Mix::One(r) => {
-                let m = A::make(r, words, used)?;
+                let Made { content, used } = A::make(r, words, used)?;
                 Ok(Made {
-                    content: Mix::One(m.content),
-                    used: m.used,
+                    content: Mix::One(content),
+                    used,
                 })
             }
             Mix::Other(s) => {
-                let m = B::make(s, words, used)?;
+                let Made { content, used } = B::make(s, words, used)?;
                 Ok(Made {
-                    content: Mix::Other(m.content),
-                    used: m.used,
+                    content: Mix::Other(content),
+                    used,
                 })
             }
         }

@@ -5,4 +5,3 @@ pub mod kinds;
 pub mod make;
 pub mod packing;
 pub mod refusal;
-pub mod word_table;

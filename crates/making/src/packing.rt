@@ -1,19 +1,13 @@
 // Packing 16-bit units, four to a word, the first in the low bits.
 ghost use Rattle.std.specs.Prelude.{◌≡◌, ℕ, ◌+◌, ◌*◌, ◌<◌, ◌≤◌, length, slice_index};
 ghost use Rattle.content.specs.Runs.{slot};
-ghost use Rattle.making.specs.Recipes.{appended};
 ghost use Rattle.making.specs.Packed.{packed_at, packed, words_of, surrogates};
 
 // Whether one of the units is D800 to DFFF.
 pub(crate) fn has_surrogate(units: &[u16]) -> bool
     ensures { result ≡ surrogates units.now }
 {
-    for u in units {
-        if *u >= 0xD800 && *u < 0xE000 {
-            return true;
-        }
-    }
-    false
+    units.iter().any(|unit| (0xD800..0xE000).contains(unit))
 }
 
 // The unit at `i`, 0 past the end.
@@ -21,7 +15,7 @@ fn unit_or_zero(units: &[u16], i: usize) -> u64
     ensures value { result ≡ slice_index units.now i }
     ensures small { result < 65536 }
 {
-    if i < units.len() { units[i] as u64 } else { 0 }
+    units.get(i).map_or(0, |unit| u64::from(*unit))
 }
 
 /// The word of the four units from 4 · `k` on, 0 for each that there is not.
@@ -30,22 +24,18 @@ pub fn packed_word(units: &[u16], k: u32) -> u64
     ensures value { result ≡ packed_at units.now (4 * k) }
     ensures back { (j : ℕ) → j < 4 → slot result j ≡ slice_index units.now (4 * k + j) }
 {
-    let i = 4 * k as usize;
-    let a = unit_or_zero(units, i);
-    let b = unit_or_zero(units, i + 1);
-    let c = unit_or_zero(units, i + 2);
-    let d = unit_or_zero(units, i + 3);
+    let at = 4 * k as usize;
+    let [a, b, c, d] = [at, at + 1, at + 2, at + 3].map(|i| unit_or_zero(units, i));
     a + b * 0x1_0000 + c * 0x1_0000_0000 + d * 0x1_0000_0000_0000
 }
 
-// Appends the units, packed, to the used words.
-pub(crate) fn pack(units: &[u16], words: &mut [u64], used: u32)
+// Writes the words that the units take, packed.
+pub(crate) fn pack(units: &[u16], words: &mut [u64])
     requires few { length units.now ≤ 65536 }
-    requires room { used + words_of (length units.now) ≤ length words.old }
-    ensures { words.new ≡ appended words.old used (packed units.now) }
+    requires room { length words.old ≡ words_of (length units.now) }
+    ensures { words.new ≡ packed units.now }
 {
-    let n = (units.len() as u32 + 3) / 4;
-    for k in 0..n {
-        words[used as usize + k as usize] = packed_word(units, k);
+    for (k, word) in words.iter_mut().enumerate() {
+        *word = packed_word(units, k as u32);
     }
 }
