@@ -1,33 +1,18 @@
 -- Makings one after another, from the laws alone.
 use Rattle.std.proofs.Common.{◌≡◌, ℕ, ◌+◌, ◌<◌, ◌≤◌, true, false, List, [], ◌∷◌, ◌++◌, map, length, get_or, take, drop, set, is_some, Some, None, Option, sym, ap, ◌∙◌, subst, ap₂, arith}
-use Rattle.std.proofs.lemmas.List.{append_assoc, append-nil, length-append, take-append-drop, take-take, take_more, take_more_set, take_all, drop_more, drop_all, map_push}
+use Rattle.std.specs.List.{AllZip}
+use Rattle.std.proofs.lemmas.Slice.Zip.{all_zipped_more}
+use Rattle.std.proofs.lemmas.List.{append_assoc, length-append, take-append-drop, take-take, take_more, take_more_set, drop_more, map_push}
 use Rattle.content.specs.declared.content.Content.{Ghosts}
 use Rattle.content.specs.Lawful.{Lawful}
-use Rattle.making.specs.Recipes.{Recipe, appended, judged}
-use Rattle.stranger.specs.Sequences.{table, next, unless_refused, last, accepted, Kept, Each, Sequence}
+use Rattle.making.specs.Recipes.{Recipe, judged}
+use Rattle.stranger.specs.Sequences.{table, next, unless_refused, last, accepted, Kept}
 
-each_map : {X Y : Type 0} (P Q : X → Y → Type 0) → ((x : X) (y : Y) → P x y → Q x y) → (xs : List X) (ys : List Y) → Each P xs ys → Each Q xs ys
-each_map P Q f [] [] e = tt
+each_map : {X Y : Type 0} (P Q : X → Y → Type 0) → ((x : X) (y : Y) → P x y → Q x y) → (xs : List X) (ys : List Y) → AllZip P xs ys → AllZip Q xs ys
+each_map P Q f [] [] e = e
 each_map P Q f [] (y ∷ ys) e = e
 each_map P Q f (x ∷ xs) [] e = e
 each_map P Q f (x ∷ xs) (y ∷ ys) e = (f x y e.0, each_map P Q f xs ys e.1)
-
-each_push : {X Y : Type 0} (P : X → Y → Type 0) (xs : List X) (ys : List Y) (x : X) (y : Y) → Each P xs ys → P x y → Each P (xs ++ x ∷ []) (ys ++ y ∷ [])
-each_push P [] [] x y e p = (p, tt)
-each_push P [] (b ∷ ys) x y e p = absurd e
-each_push P (a ∷ xs) [] x y e p = absurd e
-each_push P (a ∷ xs) (b ∷ ys) x y e p = (e.0, each_push P xs ys x y e.1 p)
-
-module _ (r : Recipe) (ws : List ℕ) (used : ℕ) (after : List ℕ) where
-  pub next-accepted : (m : ℕ) → None ≡ judged r ws used → after ≡ appended ws used (r.spent (take used ws)) → m ≡ used + length (r.spent (take used ws)) → table after m ≡ next r (table ws used)
-  next-accepted m is words count =
-      ap₂ table words count
-      ∙ ap (λ v. unless_refused v (table (appended ws used (r.spent (take used ws))) (used + length (r.spent (take used ws)))) (table ws used)) is
-
-  pub next-refused : (n : ℕ) → Some n ≡ judged r ws used → after ≡ ws → table after used ≡ next r (table ws used)
-  next-refused n is same =
-      ap (λ t. table t used) same
-      ∙ ap (λ v. unless_refused v (table (appended ws used (r.spent (take used ws))) (used + length (r.spent (take used ws)))) (table ws used)) is
 
 -- The first i recipes are done: what they left, and what is still to come.
 pub record Onward {C R : Type 0} (K : Ghosts C) (asks : R → Recipe) (recipes : List R) (before : List ℕ) (used i n : ℕ) (ws : List ℕ) (made : List (Option C)) : Type 0 where
@@ -35,7 +20,7 @@ pub record Onward {C R : Type 0} (K : Ghosts C) (asks : R → Recipe) (recipes :
   pub chosen : map is_some (take i made) ++ accepted asks (drop i recipes) (table ws n) ≡ accepted asks recipes (table before used)
   pub more : used ≤ n
   pub kept : take used ws ≡ take used before
-  pub each : Each (Kept K asks (take n ws)) (take i recipes) (take i made)
+  pub each : AllZip (Kept K asks (take n ws)) (take i recipes) (take i made)
 
 module _ {C R : Type 0} (K : Ghosts C) (asks : R → Recipe) where
   -- Words that are appended leave what was made.
@@ -63,7 +48,7 @@ module _ {C R : Type 0} (K : Ghosts C) (asks : R → Recipe) where
         sym (take-append-drop n (take m after)) ∙ ap (λ xs. xs ++ drop n (take m after)) (take-take n m after le ∙ kept) in
         let stays : (x : R) (y : Option C) → Kept K asks (take n ws) x y → P x y =
         λ x y h. subst (λ (t : List ℕ). Kept K asks t x y) (sym words) (kept_more L (take n ws) (drop n (take m after)) x y h) in
-        let all = each_push P (take i recipes) (take i made) r o (each_map (Kept K asks (take n ws)) P stays (take i recipes) (take i made) w.each) here in
+        let all = all_zipped_more P (take i recipes) (take i made) r o (each_map (Kept K asks (take n ws)) P stays (take i recipes) (take i made) w.each) here in
         record {
           exact = ap (last asks (drop (i + 1) recipes)) exact ∙ ap (λ rs. last asks rs (table ws n)) (sym rest) ∙ w.exact;
           chosen =
@@ -75,21 +60,5 @@ module _ {C R : Type 0} (K : Ghosts C) (asks : R → Recipe) where
               ∙ w.chosen;
           more = omega arith;
           kept = sym (take-take used n after low) ∙ ap (take used) kept ∙ take-take used n ws low ∙ w.kept;
-          each = subst (λ (ys : List (Option C)). Each P (take (i + 1) recipes) ys) (sym cells) (subst (λ (xs : List R). Each P xs (take i made ++ o ∷ [])) (sym front) all);
-        }
-
-    pub all_done : length recipes ≤ i → length made ≤ i → Sequence K asks recipes before used ws n made
-    all_done a b =
-        let none : drop i recipes ≡ [] = drop_all i recipes a in
-        record {
-          exact = sym (ap (λ rs. last asks rs (table ws n)) none) ∙ w.exact;
-          chosen =
-              sym (append-nil (map is_some made))
-              ∙ ap (λ os. map is_some os ++ []) (sym (take_all i made b))
-              ∙ ap (λ rs. map is_some (take i made) ++ accepted asks rs (table ws n)) (sym none)
-              ∙ w.chosen;
-          more = w.more;
-          kept = w.kept;
-          each = subst (λ (ys : List (Option C)). Each (Kept K asks (take n ws)) recipes ys) (take_all i made b)
-              (subst (λ (xs : List R). Each (Kept K asks (take n ws)) xs (take i made)) (take_all i recipes a) w.each);
+          each = subst (λ (ys : List (Option C)). AllZip P (take (i + 1) recipes) ys) (sym cells) (subst (λ (xs : List R). AllZip P xs (take i made ++ o ∷ [])) (sym front) all);
         }

@@ -1,5 +1,6 @@
 -- Makings one after another.
 use Rattle.std.specs.Prelude.{◌≡◌, ℕ, ◌+◌, ◌≤◌, Bool, true, false, List, [], ◌∷◌, map, length, take, is_some, Some, None, Option}
+use Rattle.std.specs.List.{AllZip}
 use Rattle.content.specs.declared.content.Content.{Ghosts}
 use Rattle.making.specs.Recipes.{Recipe, appended, judged}
 
@@ -44,13 +45,6 @@ abbrev pub Kept : {C R : Type 0} → Ghosts C → (R → Recipe) → List ℕ �
 Kept K asks t r (Some c) = Has K t (asks r) c
 Kept K asks t r None = Unit {0}
 
--- P of each two that stand at the same place.
-abbrev pub Each : {X Y : Type 0} → (X → Y → Type 0) → List X → List Y → Type 0
-Each P [] [] = Unit {0}
-Each P [] (y ∷ ys) = ⊥
-Each P (x ∷ xs) [] = ⊥
-Each P (x ∷ xs) (y ∷ ys) = P x y × Each P xs ys
-
 -- What makings one after another leave: the table, exactly, with the words that were used before; which recipes
 -- were accepted; and contents that, after all the makings, have what their recipes ask for.
 pub record Sequence {C R : Type 0} (K : Ghosts C) (asks : R → Recipe) (recipes : List R) (before : List ℕ) (used : ℕ) (after : List ℕ) (used_after : ℕ) (made : List (Option C)) : Type 0 where
@@ -58,4 +52,4 @@ pub record Sequence {C R : Type 0} (K : Ghosts C) (asks : R → Recipe) (recipes
   pub chosen : map is_some made ≡ accepted asks recipes (table before used)
   pub more : used ≤ used_after
   pub kept : take used after ≡ take used before
-  pub each : Each (Kept K asks (take used_after after)) recipes made
+  pub each : AllZip (Kept K asks (take used_after after)) recipes made

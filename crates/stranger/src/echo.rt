@@ -8,7 +8,8 @@ use making::make::{Made, Make};
 use making::refusal::{Refusal, judge};
 
 /// The countable unit `unit`, as often as `times` says.
-#[derive(Clone, Copy)]
+// Much as a gap, and no form of it: this kind shows that a kind can be written that `content` does not know.
+#[derive(Clone, Copy, PartialEq, Eq, Debug)]
 pub struct Echo {
     pub unit: u64,
     pub times: u32,
@@ -57,22 +58,15 @@ impl Content for Echo {
     }
 
     fn unit(&self, _words: &[u64], offset: u32) -> Option<u64> {
-        if offset < self.times {
-            Some(self.unit)
-        } else {
-            None
-        }
+        (offset < self.times).then_some(self.unit)
     }
 
     fn cut(&self, k: u32) -> (Echo, Echo) {
         (
+            Echo { times: k, ..*self },
             Echo {
-                unit: self.unit,
-                times: k,
-            },
-            Echo {
-                unit: self.unit,
                 times: self.times - k,
+                ..*self
             },
         )
     }
@@ -83,12 +77,10 @@ impl Make<(u64, u32)> for Echo {
     ghost asks = { λ r. record { counts = true; units = replicate r.1 r.0; faulty = false; spent = λ _. [] } };
 
     fn make(recipe: (u64, u32), words: &mut [u64], used: u32) -> Result<Made<Echo>, Refusal> {
-        judge(recipe.1 as usize, false, 0, words.len(), used)?;
+        let (unit, times) = recipe;
+        judge(times as usize, false, 0, words.len(), used)?;
         Ok(Made {
-            content: Echo {
-                unit: recipe.0,
-                times: recipe.1,
-            },
+            content: Echo { unit, times },
             used,
         })
     }

@@ -6,18 +6,19 @@ ghost use Rattle.stranger.specs.Sequences.{table, next, unless_refused, Kept, Se
 use content::content::Content;
 use making::make::Make;
 
-// Makes what the recipe asks for, and answers how many words are then used.
-fn make_one<R: Copy, C: Make<R>>(recipe: &R, words: &mut [u64], used: u32) -> (Option<C>, u32)
-    ensures exact { table words.new result.1 ≡ next (C.Make.asks recipe.now) (table words.old used) }
-    ensures chosen { is_some result.0 ≡ unless_refused (judged (C.Make.asks recipe.now) words.old used) true false }
-    ensures more { used ≤ result.1 }
-    ensures kept { take used words.new ≡ take used words.old }
-    ensures made { Kept C.Content C.Make.asks (take result.1 words.new) recipe.now result.0 }
+// Makes what the recipe asks for, and counts the words that are then used.
+fn make_one<R: Copy, C: Make<R>>(recipe: &R, words: &mut [u64], used: &mut u32) -> Option<C>
+    ensures exact { table words.new used.new ≡ next (C.Make.asks recipe.now) (table words.old used.old) }
+    ensures chosen { is_some result ≡ unless_refused (judged (C.Make.asks recipe.now) words.old used.old) true false }
+    ensures more { used.old ≤ used.new }
+    ensures kept { take used.old words.new ≡ take used.old words.old }
+    ensures made { Kept C.Content C.Make.asks (take used.new words.new) recipe.now result }
 {
-    match C::make(*recipe, words, used) {
-        Ok(m) => (Some(m.content), m.used),
-        Err(_) => (None, used),
-    }
+    let Ok(made) = C::make(*recipe, words, *used) else {
+        return None;
+    };
+    *used = made.used;
+    Some(made.content)
 }
 
 // Makes what each recipe asks for.
@@ -31,10 +32,8 @@ fn make_all<R: Copy, C: Make<R>>(
     ensures { Sequence C.Content C.Make.asks recipes.now words.old used words.new result made.new }
 {
     let mut n = used;
-    for i in 0..recipes.len() {
-        let (content, m) = make_one(&recipes[i], words, n);
-        made[i] = content;
-        n = m;
+    for (i, recipe) in recipes.iter().enumerate() {
+        made[i] = make_one(recipe, words, &mut n);
     }
     n
 }
@@ -70,10 +69,7 @@ mod tests {
 
     // The unit at `offset` of what was made, nothing if nothing was.
     fn unit(made: &Option<Kind>, words: &[u64], offset: u32) -> Option<u64> {
-        match made {
-            Some(c) => c.unit(words, offset),
-            None => None,
-        }
+        made.and_then(|c| c.unit(words, offset))
     }
 
     #[test]
