@@ -16,38 +16,27 @@ mod tests {
     // Every supplied kind.
     type Any = Mix<ClipRun, Mix<TextRun, Mix<Mark, Gap>>>;
 
-    // The used words after making a text run of `n` units `u` in a table of `size` words, or the refusal's number.
-    fn text(n: usize, u: u16, size: usize, used: u32) -> Result<u32, u8> {
-        let units = [u; 65_540];
+    // The used words after making a content of the first `n` units in a table of `size` words, or the refusal's number.
+    fn used_after<'a, T, C: Make<&'a [T]>>(
+        units: &'a [T],
+        n: usize,
+        size: usize,
+        used: u32,
+    ) -> Result<u32, u8> {
         let mut words = [0; 65_540];
-        if n > 65_540 || size > 65_540 {
+        if n > units.len() || size > words.len() {
             return Err(0);
         }
-        match TextRun::make(&units[0..n], &mut words[0..size], used) {
-            Ok(m) => Ok(m.used),
-            Err(e) => Err(e.number()),
-        }
-    }
-
-    // The same of a clip run.
-    fn clips(n: usize, size: usize, used: u32) -> Result<u32, u8> {
-        let units = [7; 65_540];
-        let mut words = [0; 65_540];
-        if n > 65_540 || size > 65_540 {
-            return Err(0);
-        }
-        match ClipRun::make(&units[0..n], &mut words[0..size], used) {
-            Ok(m) => Ok(m.used),
-            Err(e) => Err(e.number()),
-        }
+        C::make(&units[..n], &mut words[..size], used)
+            .map(|made| made.used)
+            .map_err(|refusal| refusal.number())
     }
 
     // The length of a gap that was made over no words, and the used words, or the refusal's number.
     fn gap(n: u32, used: u32) -> Result<(u32, u32), u8> {
-        match Gap::make(n, &mut [], used) {
-            Ok(m) => Ok((m.content.len(), m.used)),
-            Err(e) => Err(e.number()),
-        }
+        Gap::make(n, &mut [], used)
+            .map(|made| (made.content.len(), made.used))
+            .map_err(|refusal| refusal.number())
     }
 
     #[test]
@@ -70,8 +59,9 @@ mod tests {
             (1, 65_540, 65_536, Err(8)),
             (1, 5, 10, Err(8)),
         ];
+        let units = [65; 65_540];
         for (n, size, used, want) in cases {
-            assert_eq!(rt; text(n, 65, size, used), want);
+            assert_eq!(rt; used_after::<u16, TextRun>(&units, n, size, used), want);
         }
     }
 
@@ -88,7 +78,7 @@ mod tests {
             (3, 0xD7FF, 0, Err(8)),
         ];
         for (n, u, size, want) in cases {
-            assert_eq!(rt; text(n, u, size, 0), want);
+            assert_eq!(rt; used_after::<u16, TextRun>(&[u; 65_540], n, size, 0), want);
         }
     }
 
@@ -108,8 +98,9 @@ mod tests {
             (5, 5, 0, Ok(5)),
             (1, 5, 10, Err(8)),
         ];
+        let units = [7; 65_540];
         for (n, size, used, want) in cases {
-            assert_eq!(rt; clips(n, size, used), want);
+            assert_eq!(rt; used_after::<u64, ClipRun>(&units, n, size, used), want);
         }
     }
 
@@ -149,8 +140,8 @@ mod tests {
 
     // Numbers that are no surrogates, one after another.
     fn count_up(units: &mut [u16]) {
-        for i in 0..units.len() {
-            units[i] = (i % 0xD800) as u16;
+        for (i, unit) in units.iter_mut().enumerate() {
+            *unit = (i % 0xD800) as u16;
         }
     }
 
@@ -162,7 +153,7 @@ mod tests {
         let mut words = [0; 16_384];
         let m = TextRun::make(&units, &mut words, 0)?;
         for i in 0..65_536u32 {
-            assert_eq!(rt; m.content.unit(&words, i), Some((i % 0xD800) as u64));
+            assert_eq!(rt; m.content.unit(&words, i), Some(u64::from(i % 0xD800)));
         }
         assert_eq!(rt; m.content.unit(&words, 65_536), None);
         Ok(())
@@ -171,15 +162,12 @@ mod tests {
     // The unit at `i` of the right piece of the units 1 to 9 after one word, cut at `k`, over the first `n` words.
     fn right_unit(k: u32, n: usize, i: u32) -> Option<u64> {
         let mut words = [0; 4];
-        let m = match TextRun::make(&[1, 2, 3, 4, 5, 6, 7, 8, 9], &mut words, 1) {
-            Ok(m) => m,
-            Err(_) => return None,
-        };
+        let m = TextRun::make(&[1, 2, 3, 4, 5, 6, 7, 8, 9], &mut words, 1).ok()?;
         if k == 0 || k >= m.content.len() || n > 4 {
             return None;
         }
         let (_, right) = m.content.cut(k);
-        right.unit(&words[0..n], i)
+        right.unit(&words[..n], i)
     }
 
     #[test]
@@ -221,10 +209,10 @@ mod tests {
     // The lengths of the pieces of a gap of five units that is cut at the offsets.
     fn gap_pieces(offsets: &[u32], room: usize) -> Option<[u32; 3]> {
         let mut pieces = [Gap { len: 9 }; 3];
-        if room > 3 || !cut_into_pieces(&Gap { len: 5 }, offsets, &mut pieces[0..room]) {
+        if room > 3 || !cut_into_pieces(&Gap { len: 5 }, offsets, &mut pieces[..room]) {
             return None;
         }
-        Some([pieces[0].len, pieces[1].len, pieces[2].len])
+        Some(pieces.map(|piece| piece.len))
     }
 
     #[test]
