@@ -1,1 +1,1 @@
-mod RecordLaws
+mod PartLaws

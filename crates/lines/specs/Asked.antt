@@ -1,11 +1,12 @@
 use Rattle.std.specs.Prelude.{ℕ, List}
-use Rattle.source.specs.Meaning.{Side, id_of, start_of, end_of}
+use Rattle.source.specs.Meaning.{id_of}
 use Rattle.spelling.specs.Wanted.{Want, wants}
+use Rattle.lines.specs.Calls.{Called, call_of}
 use Rattle.lines.specs.declared.line.Line.{Line}
-use Rattle.lines.specs.declared.line.Line.TheVariants.{Document, Open, Make, Insert, InsertKept, Remove, Cut, Links, Blocks, Origins, Write, Decode, Pieces}
+use Rattle.lines.specs.declared.line.Line.TheVariants.{Document, Open, Make, Insert, InsertKept, Remove, Cut, Links, Blocks, Origins, Call}
 
--- What a line may ask for, free of references: a name and a word are their bytes, an id is its client and its clock, a source
--- its two sides, and a list goes by its number. A record is given by its hexadecimal digits.
+-- What a line may ask for, free of references: a name and a word are their bytes, an id is its client and its clock, and a list
+-- goes by its number.
 pub data Asked : Type 0 where
   document : ℕ → ℕ → Asked
   open_list : List ℕ → Asked
@@ -17,9 +18,7 @@ pub data Asked : Type 0 where
   links : ℕ × ℕ → Asked
   blocks : ℕ → Asked
   origins : ℕ → Asked
-  write : Side → Side → Asked
-  decode : List ℕ → Asked
-  pieces : ℕ → Want → Asked
+  call : Called → Asked
 
 abbrev pub line_of : Line → Asked
 line_of (Document b w) = document b w
@@ -32,6 +31,4 @@ line_of (Cut i) = cut (id_of i)
 line_of (Links i) = links (id_of i)
 line_of (Blocks l) = blocks l
 line_of (Origins l) = origins l
-line_of (Write s) = write (start_of s) (end_of s)
-line_of (Decode w) = decode w.now
-line_of (Pieces k w) = pieces k (wants w)
+line_of (Call c) = call (call_of c)

@@ -3,12 +3,8 @@ use Rattle.std.specs.Option.{option_map}
 use Rattle.notation.specs.Words.{first_word, after_word}
 use Rattle.notation.specs.Numerals.{and_then}
 use Rattle.spelling.specs.Wanted.{wanted_in}
-use Rattle.lines.specs.Asked.{Asked, make, insert, insert_kept, pieces}
+use Rattle.lines.specs.Asked.{Asked, make, insert, insert_kept}
 use Rattle.lines.specs.Parts.{ended, front}
-
--- OFFSET CONTENT
-abbrev pub pieces_in : List ℕ → Option Asked
-pieces_in rest = and_then (front rest) (λ p. option_map (pieces p.0) (wanted_in p.1))
 
 -- WORD CONTENT
 abbrev pub make_in : List ℕ → Option Asked

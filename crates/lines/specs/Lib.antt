@@ -1,5 +1,5 @@
 pub mod Asked
+pub mod Calls
 pub mod Contents
 pub mod Lines
 pub mod Parts
-pub mod Records

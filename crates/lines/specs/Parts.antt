@@ -1,4 +1,4 @@
-use Rattle.std.specs.Prelude.{ℕ, Bool, cond, List, length, Some, None, Option, ◌==◌}
+use Rattle.std.specs.Prelude.{ℕ, zero, suc, Bool, cond, List, [], ◌∷◌, length, Some, None, Option, ◌==◌}
 use Rattle.std.specs.Option.{option_map}
 use Rattle.notation.specs.Words.{first_word, after_word}
 use Rattle.notation.specs.Numerals.{and_then, number_in}
@@ -12,15 +12,10 @@ ended line = length (first_word line) == 0
 abbrev pub front : List ℕ → Option (ℕ × List ℕ)
 front line = option_map (λ n. (n, after_word line)) (number_in (first_word line))
 
--- One number, two or three, and nothing more.
-abbrev pub one : List ℕ → Option ℕ
-one line = and_then (front line) (λ p. cond (ended p.1) (Some p.0) None)
-
-abbrev pub two : List ℕ → Option (ℕ × ℕ)
-two line = and_then (front line) (λ p. option_map (λ n. (p.0, n)) (one p.1))
-
-abbrev pub three : List ℕ → Option (ℕ × ℕ × ℕ)
-three line = and_then (front line) (λ p. option_map (λ q. (p.0, q.0, q.1)) (two p.1))
+-- So many numbers, and nothing more.
+abbrev pub counted : ℕ → List ℕ → Option (List ℕ)
+counted zero line = cond (ended line) (Some []) None
+counted (suc n) line = and_then (front line) (λ p. option_map (λ ns. p.0 ∷ ns) (counted n p.1))
 
 -- An id, and nothing more.
 abbrev pub lone_id : List ℕ → Option (ℕ × ℕ)

@@ -1,14 +1,13 @@
-ghost use Rattle.std.specs.Prelude.{◌≡◌, IfOk};
+ghost use Rattle.std.specs.Prelude.{◌≡◌, IfOk, drop};
 ghost use Rattle.std.specs.Option.{option_map};
 ghost use Rattle.lines.specs.Asked.{line_of};
 ghost use Rattle.lines.specs.Lines.{plain_in, line_in};
 
-use crate::contents::{read_insert, read_make, read_pieces};
-use crate::parts::{read_lone_id, read_one, read_three, read_two};
-use crate::records::{read_decode, read_write};
+use crate::call::{Call, read_named};
+use crate::contents::{read_insert, read_make};
+use crate::parts::{read_lone_id, read_numbers};
 use notation::words::{is_word, next_word};
 use source::id::Id;
-use source::weak::LinkSource;
 use spelling::wanted::Wanted;
 use std::alloc::{AllocError, Global};
 
@@ -35,39 +34,42 @@ pub enum Line<'a> {
     Blocks(u64),
     /// The origins of a list's blocks.
     Origins(u64),
-    /// The record of a source.
-    Write(LinkSource<'a>),
-    /// The source that a record holds; its bytes as hexadecimal digits.
-    Decode(&'a [u8]),
-    /// The pieces of a content, cut at an offset.
-    Pieces(u64, Wanted),
+    /// A call that needs no document.
+    Call(Call<'a>),
 }
 
-/// The call of that name which has no content, by what stands after its name.
+/// The name of a list, which is all that follows one blank.
+fn read_open<'a>(rest: &'a [u8]) -> &'a [u8]
+    ensures { result.now ≡ drop 1 rest.now }
+{
+    match rest {
+        [_, name @ ..] => name,
+        [] => rest,
+    }
+}
+
+/// The call of that name which has no content and needs a document, by what stands after its name.
 fn read_plain<'a>(name: &[u8], rest: &'a [u8]) -> Option<Line<'a>>
     ensures { option_map line_of result ≡ plain_in name.now rest.now }
 {
     if is_word(name, b"open") {
-        let n = if rest.len() == 0 { 0 } else { 1 };
-        Some(Line::Open(&rest[n..]))
+        Some(Line::Open(read_open(rest)))
     } else if is_word(name, b"document") {
-        let (blocks, words) = read_two(rest)?;
+        let [blocks, words] = read_numbers::<2>(rest)?;
         Some(Line::Document(blocks, words))
     } else if is_word(name, b"remove") {
-        let (list, index, count) = read_three(rest)?;
+        let [list, index, count] = read_numbers::<3>(rest)?;
         Some(Line::Remove(list, index, count))
     } else if is_word(name, b"blocks") {
-        Some(Line::Blocks(read_one(rest)?))
+        let [list] = read_numbers::<1>(rest)?;
+        Some(Line::Blocks(list))
     } else if is_word(name, b"origins") {
-        Some(Line::Origins(read_one(rest)?))
+        let [list] = read_numbers::<1>(rest)?;
+        Some(Line::Origins(list))
     } else if is_word(name, b"cut") {
         Some(Line::Cut(read_lone_id(rest)?))
     } else if is_word(name, b"links") {
         Some(Line::Links(read_lone_id(rest)?))
-    } else if is_word(name, b"write") {
-        read_write(rest)
-    } else if is_word(name, b"decode") {
-        read_decode(rest)
     } else {
         None
     }
@@ -79,12 +81,13 @@ pub fn read_line<'a>(heap: Global, line: &'a [u8]) -> Result<Option<Line<'a>>, A
 {
     let (name, rest) = next_word(line);
     if is_word(name, b"make") {
-        read_make(heap, rest)
-    } else if is_word(name, b"insert") {
-        read_insert(heap, rest)
-    } else if is_word(name, b"pieces") {
-        read_pieces(heap, rest)
-    } else {
-        Ok(read_plain(name, rest))
+        return read_make(heap, rest);
     }
+    if is_word(name, b"insert") {
+        return read_insert(heap, rest);
+    }
+    if let Some(call) = read_named(heap, name, rest)? {
+        return Ok(Some(Line::Call(call)));
+    }
+    Ok(read_plain(name, rest))
 }

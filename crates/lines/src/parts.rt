@@ -1,12 +1,20 @@
 ghost use Rattle.std.specs.Prelude.{◌≡◌};
 ghost use Rattle.std.specs.Option.{option_map};
 ghost use Rattle.source.specs.Meaning.{id_of};
-ghost use Rattle.lines.specs.Parts.{front, one, two, three, lone_id};
+ghost use Rattle.lines.specs.Parts.{ended, front, counted, lone_id};
 
 use notation::numeral::read_number;
 use notation::words::next_word;
 use source::id::Id;
 use spelling::side::read_id;
+
+/// Whether no word is left.
+pub(crate) fn is_ended(line: &[u8]) -> bool
+    ensures { result ≡ ended line.now }
+{
+    let (word, _) = next_word(line);
+    word.is_empty()
+}
 
 /// The number that a line begins with, and what stands after it.
 pub(crate) fn read_front<'a>(line: &'a [u8]) -> Option<(u64, &'a [u8])>
@@ -16,33 +24,18 @@ pub(crate) fn read_front<'a>(line: &'a [u8]) -> Option<(u64, &'a [u8])>
     Some((read_number(word)?, rest))
 }
 
-/// The one number that a line says, and nothing more.
-pub(crate) fn read_one(line: &[u8]) -> Option<u64>
-    ensures { result ≡ one line.now }
+/// So many numbers, and nothing more.
+pub(crate) fn read_numbers<const N: usize>(line: &[u8]) -> Option<[u64; N]>
+    ensures { result ≡ counted N line.now }
 {
-    let (n, rest) = read_front(line)?;
-    let (more, _) = next_word(rest);
-    if more.len() > 0 {
-        return None;
+    let mut numbers = [0u64; N];
+    let mut rest = line;
+    for number in &mut numbers {
+        let (front, more) = read_front(rest)?;
+        *number = front;
+        rest = more;
     }
-    Some(n)
-}
-
-/// Two numbers, and nothing more.
-pub(crate) fn read_two(line: &[u8]) -> Option<(u64, u64)>
-    ensures { result ≡ two line.now }
-{
-    let (first, rest) = read_front(line)?;
-    Some((first, read_one(rest)?))
-}
-
-/// Three numbers, and nothing more.
-pub(crate) fn read_three(line: &[u8]) -> Option<(u64, u64, u64)>
-    ensures { result ≡ three line.now }
-{
-    let (first, rest) = read_front(line)?;
-    let (second, third) = read_two(rest)?;
-    Some((first, second, third))
+    is_ended(rest).then_some(numbers)
 }
 
 /// The id that a line says, and nothing more.
@@ -50,9 +43,5 @@ pub(crate) fn read_lone_id(line: &[u8]) -> Option<Id>
     ensures { option_map id_of result ≡ lone_id line.now }
 {
     let (word, rest) = next_word(line);
-    let (more, _) = next_word(rest);
-    if more.len() > 0 {
-        return None;
-    }
-    read_id(word)
+    if is_ended(rest) { read_id(word) } else { None }
 }

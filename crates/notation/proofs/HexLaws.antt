@@ -1,29 +1,22 @@
-use Rattle.std.proofs.Common.{◌≡◌, ℕ, suc, ◌+◌, ◌*◌, ◌/◌, ◌%◌, ◌<◌, ◌≤◌, true, false, ◌&&◌, ltb, leb, ◌⊎◌, List, [], ◌∷◌, ◌++◌, length, get_or, take, drop, sym, refl, ap, ◌∙◌, inl, inr, arith}
-use Rattle.std.proofs.lemmas.List.{drop_more, drop_all, take_more, append_assoc}
-use Rattle.std.proofs.lemmas.Bool.{cases_lt, lt-ltb, le-ltb, le-leb, lt-leb, and_from, and_left, and_right, or_left, or_right, cond-true, cond-false}
+use Rattle.std.proofs.Common.{◌≡◌, ℕ, zero, suc, ◌+◌, ◌*◌, ◌/◌, ◌%◌, ◌<◌, ◌≤◌, true, false, ◌&&◌, eqb, ltb, leb, List, [], ◌∷◌, ◌++◌, length, get_or, take, map, sym, refl, ap, ◌∙◌, inl, inr, arith}
+use Rattle.std.proofs.lemmas.List.{take_more, append_assoc}
+use Rattle.std.proofs.lemmas.Bool.{ne_eqb, cases_lt, lt-ltb, le-ltb, le-leb, lt-leb, and_from, and_right, or_left, or_right, cond-true, cond-false}
+use Rattle.std.specs.List.{list_all}
+use Rattle.std.specs.Simd.{first_chunks}
+use Rattle.std.proofs.Math.Bool.{and_assoc}
 use Rattle.notation.specs.Hex.{is_decimal, is_capital, is_hex_digit, nibble, is_hex, bytes_in, digit_of, hex_of}
-
--- Two digits in a word, or the last one alone.
-pub pair_at : (w : List ℕ) (n : ℕ) → n + 1 < length w → drop n w ≡ get_or w n 0 ∷ get_or w (n + 1) 0 ∷ drop (n + 2) w
-pair_at w n h =
-    let e : n + 1 + 1 ≡ n + 2 = omega arith in
-    drop_more w n 0 (omega arith)
-    ∙ ap (λ q. get_or w n 0 ∷ q) (drop_more w (n + 1) 0 h ∙ ap (λ k. get_or w (n + 1) 0 ∷ drop k w) e)
-
-pub lone_at : (w : List ℕ) (n : ℕ) → n < length w → length w ≤ n + 1 → drop n w ≡ get_or w n 0 ∷ []
-lone_at w n h l = drop_more w n 0 h ∙ ap (λ q. get_or w n 0 ∷ q) (drop_all (n + 1) w l)
 
 -- A digit is read as it was written.
 decimal_back : (n : ℕ) → n < 10 → (is_hex_digit (0x30 + n) ≡ true) × (nibble (0x30 + n) ≡ n)
 decimal_back n h =
     let d : is_decimal (0x30 + n) ≡ true = and_from (leb 0x30 (0x30 + n)) (leb (0x30 + n) 0x39) (le-leb 0x30 (0x30 + n) (omega arith)) (le-leb (0x30 + n) 0x39 (omega arith)) in
-    (or_left (is_decimal (0x30 + n)) _ d, cond-true (is_decimal (0x30 + n)) _ _ d ∙ omega arith)
+    (or_left _ _ (or_left (is_decimal (0x30 + n)) _ d), cond-true (is_decimal (0x30 + n)) _ _ d ∙ omega arith)
 
 capital_back : (n : ℕ) → 10 ≤ n → n < 16 → (is_hex_digit (0x37 + n) ≡ true) × (nibble (0x37 + n) ≡ n)
 capital_back n h l =
     let d : is_decimal (0x37 + n) ≡ false = and_right (leb 0x30 (0x37 + n)) (leb (0x37 + n) 0x39) (lt-leb (0x37 + n) 0x39 (omega arith)) in
     let u : is_capital (0x37 + n) ≡ true = and_from (leb 0x41 (0x37 + n)) (leb (0x37 + n) 0x46) (le-leb 0x41 (0x37 + n) (omega arith)) (le-leb (0x37 + n) 0x46 (omega arith)) in (
-      or_right (is_decimal (0x37 + n)) _ (or_left (is_capital (0x37 + n)) _ u),
+      or_left _ _ (or_right (is_decimal (0x37 + n)) _ u),
       cond-false (is_decimal (0x37 + n)) _ _ d ∙ (cond-true (is_capital (0x37 + n)) _ _ u ∙ omega arith),
     )
 
@@ -67,20 +60,29 @@ hex_more before was one two bs i x y h a b e p q =
     ∙ (ap (λ z. z ++ (x ∷ y ∷ [])) e ∙ (append_assoc before (hex_of (take i bs)) (x ∷ y ∷ [])
     ∙ (ap (λ z. before ++ (hex_of (take i bs) ++ (z ∷ y ∷ []))) a ∙ (ap (λ z. before ++ (hex_of (take i bs) ++ (u ∷ z ∷ []))) b ∙ ap (λ z. before ++ z) (sym m)))))))
 
--- What two digits say of the word from there on.
-pub no_hex : (w : List ℕ) (n : ℕ) → n + 1 < length w → (is_hex_digit (get_or w n 0) ≡ false) ⊎ (is_hex_digit (get_or w (n + 1) 0) ≡ false) → is_hex (drop n w) ≡ false
-no_hex w n h (inl e) = ap is_hex (pair_at w n h) ∙ and_left _ _ (and_left _ _ e)
-no_hex w n h (inr e) = ap is_hex (pair_at w n h) ∙ and_left _ _ (and_right (is_hex_digit (get_or w n 0)) _ e)
+-- A word of an even number of bytes is hexadecimal where each byte is a digit, and no other word is.
+pub hex_even : (w : List ℕ) → length w % 2 ≡ 0 → list_all is_hex_digit w ≡ is_hex w
+hex_even [] h = refl
+hex_even (a ∷ []) h = absurd (omega arith)
+hex_even (a ∷ b ∷ cs) h =
+    ap (λ t. is_hex_digit a && (is_hex_digit b && t)) (hex_even cs (omega arith)) ∙ sym (and_assoc (is_hex_digit a) (is_hex_digit b) (is_hex cs))
 
-pub more_hex : (w : List ℕ) (n : ℕ) → n + 1 < length w → is_hex_digit (get_or w n 0) ≡ true → is_hex_digit (get_or w (n + 1) 0) ≡ true → is_hex (drop n w) ≡ is_hex (drop (n + 2) w)
-more_hex w n h a b =
-    ap is_hex (pair_at w n h)
-    ∙ ap (λ t. t && is_hex (drop (n + 2) w)) (and_from (is_hex_digit (get_or w n 0)) (is_hex_digit (get_or w (n + 1) 0)) a b)
+odd_no : (w : List ℕ) → (length w % 2 ≡ 0 → ⊥) → is_hex w ≡ false
+odd_no [] h = absurd (h refl)
+odd_no (a ∷ []) h = refl
+odd_no (a ∷ b ∷ cs) h = and_right (is_hex_digit a && is_hex_digit b) (is_hex cs) (odd_no cs (λ e. h (omega arith)))
 
--- The byte that they say, pushed.
-pub bytes_more : (was one all w : List ℕ) (n b : ℕ) → n + 1 < length w → b ≡ nibble (get_or w n 0) * 16 + nibble (get_or w (n + 1) 0)
-    → was ++ bytes_in (drop n w) ≡ all → one ≡ was ++ b ∷ [] → one ++ bytes_in (drop (n + 2) w) ≡ all
-bytes_more was one all w n b h a e p =
-    ap (λ z. z ++ bytes_in (drop (n + 2) w)) p
-    ∙ (append_assoc was (b ∷ []) (bytes_in (drop (n + 2) w))
-    ∙ (ap (λ z. was ++ z) (ap (λ z. z ∷ bytes_in (drop (n + 2) w)) a ∙ sym (ap bytes_in (pair_at w n h))) ∙ e))
+pub hex_odd : (w : List ℕ) → (length w % 2 ≡ 0 → ⊥) → eqb (length w % 2) 0 ≡ is_hex w
+hex_odd w h = ne_eqb (length w % 2) 0 h ∙ sym (odd_no w h)
+
+-- What a pair of digits says, and what the pairs of a word say.
+abbrev pub byte_of : List ℕ → ℕ
+byte_of pair = nibble (get_or pair 0 0) * 16 + nibble (get_or pair 1 0)
+
+pub pairs_read : (k : ℕ) (w : List ℕ) → k ≡ length w / 2 → map byte_of (first_chunks 2 k w) ≡ bytes_in w
+pairs_read zero [] h = refl
+pairs_read zero (a ∷ []) h = refl
+pairs_read zero (a ∷ b ∷ cs) h = absurd (omega arith)
+pairs_read (suc k) [] h = absurd (omega arith)
+pairs_read (suc k) (a ∷ []) h = absurd (omega arith)
+pairs_read (suc k) (a ∷ b ∷ cs) h = ap (λ bs. (nibble a * 16 + nibble b) ∷ bs) (pairs_read k cs (omega arith))

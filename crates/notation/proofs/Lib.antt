@@ -1,4 +1,3 @@
 mod HexLaws
 mod NumeralLaws
-mod SideLaws
 mod WordLaws

@@ -1,21 +1,8 @@
-use Rattle.std.proofs.Common.{◌≡◌, ℕ, suc, ◌+◌, ◌-◌, ◌<◌, min, Bool, true, false, cond, not, eqb, List, [], ◌∷◌, ◌++◌, length, take, drop, sym, refl, ap, ◌∙◌, inl, inr, one-add, arith}
+use Rattle.std.proofs.Common.{◌≡◌, ℕ, suc, ◌+◌, Bool, true, false, cond, not, eqb, List, [], ◌∷◌, ◌++◌, length, take, drop, sym, refl, ap, ◌∙◌, one-add, arith}
 use Rattle.std.specs.List.{prefix_len}
-use Rattle.std.proofs.lemmas.List.{append_assoc, append-nil, take_rest, length-take, length-drop}
-use Rattle.std.proofs.lemmas.Bool.{cond-true, cases_eq}
+use Rattle.std.proofs.lemmas.List.{append_assoc, append-nil}
+use Rattle.std.proofs.lemmas.Bool.{cond-true}
 use Rattle.notation.specs.Words.{is_blank, up_to, trimmed, first_word, after_word, before, words_from, words_in}
-
--- A line cut after its blanks, and what is left cut after its first word.
-pub word_parts : (line : List ℕ) (a n : ℕ) → a ≡ prefix_len is_blank line
-    → let t : List ℕ = take (length line - a) (drop a line) in n ≡ up_to 0x20 t
-    → (take (n - 0) t ≡ first_word line) × (take (length t - n) (drop n t) ≡ after_word line)
-word_parts line a n e u =
-    let T : List ℕ = take (length line - a) (drop a line) in
-    let t : T ≡ trimmed line = take_rest line a ∙ ap (λ k. drop k line) e in
-    let z : n - 0 ≡ n = omega arith in
-    let m : n ≡ up_to 0x20 (trimmed line) = u ∙ ap (up_to 0x20) t in (
-      ap (λ k. take k T) z ∙ (ap (take n) t ∙ ap (λ k. take k (trimmed line)) m),
-      take_rest T n ∙ (ap (drop n) t ∙ ap (λ k. drop k (trimmed line)) m),
-    )
 
 by_byte : (t : Bool) (front bs : List ℕ) (b : ℕ)
     → words_from (front ++ b ∷ []) bs ≡ before ((front ++ b ∷ []) ++ take (up_to 0x20 bs) bs) (words_in (drop (up_to 0x20 bs) bs))
@@ -49,7 +36,7 @@ words_trimmed [] = refl
 words_trimmed (b ∷ bs) = trimmed_by (eqb b 0x20) bs b (words_trimmed bs) refl
 
 -- The words of a line are its first word, if it has one, and those after it.
-pub words_next : (line : List ℕ) → words_in line ≡ before (first_word line) (words_in (after_word line))
+words_next : (line : List ℕ) → words_in line ≡ before (first_word line) (words_in (after_word line))
 words_next line = words_trimmed line ∙ first_word_lem [] (trimmed line)
 
 no_word_by : (t : Bool) (bs : List ℕ) (b : ℕ) → (length (first_word bs) ≡ 0 → words_in bs ≡ []) → eqb b 0x20 ≡ t
@@ -69,12 +56,11 @@ pub no_word : (line : List ℕ) → length (first_word line) ≡ 0 → words_in 
 no_word [] l = refl
 no_word (b ∷ bs) l = no_word_by (eqb b 0x20) bs b (no_word bs) refl l
 
--- What stands after a word is shorter.
-pub word_less : (line : List ℕ) → (length (first_word line) ≡ 0 → ⊥) → length (after_word line) < length line
-word_less line h =
-    let t : List ℕ = trimmed line in
-    let n : ℕ = up_to 0x20 t in
-    let a : length (take n t) ≡ min n (length t) = length-take n t in
-    let b : length (drop n t) ≡ length t - n = length-drop n t in
-    let c : length t ≡ length line - prefix_len is_blank line = length-drop (prefix_len is_blank line) line in
-    elim (cases_eq (length (take n t)) 0) [ inl e ↦ absurd (h e) | inr e ↦ omega (arith, e) ]
+before_some : (w : List ℕ) (ws : List (List ℕ)) → (length w ≡ 0 → ⊥) → before w ws ≡ w ∷ ws
+before_some [] ws h = absurd (h refl)
+before_some (b ∷ bs) ws h = refl
+
+-- A first word that is not empty, and the words after it.
+pub a_word : (line w more : List ℕ) → w ≡ first_word line → more ≡ after_word line → (length w ≡ 0 → ⊥) → words_in line ≡ w ∷ words_in more
+a_word line w more e m h =
+    words_next line ∙ (ap (λ q. before q (words_in (after_word line))) (sym e) ∙ (ap (λ q. before w (words_in q)) (sym m) ∙ before_some w (words_in more) h))

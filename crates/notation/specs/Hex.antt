@@ -11,7 +11,7 @@ abbrev pub is_small : ℕ → Bool
 is_small c = nat_le 0x61 c && nat_le c 0x66
 
 abbrev pub is_hex_digit : ℕ → Bool
-is_hex_digit c = is_decimal c || (is_capital c || is_small c)
+is_hex_digit c = (is_decimal c || is_capital c) || is_small c
 
 -- What a hexadecimal digit says; another byte says 0.
 abbrev pub nibble : ℕ → ℕ

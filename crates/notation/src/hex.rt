@@ -1,28 +1,26 @@
 ghost use Rattle.std.specs.Prelude.{◌≡◌, ℕ, ◌<◌, true, List, ◌++◌, IfOk, OnOk, slice_index};
+ghost use Rattle.std.specs.List.{list_all};
 ghost use Rattle.notation.specs.Hex.{is_hex_digit, nibble, is_hex, bytes_in, digit_of, hex_of};
 
 use std::alloc::{AllocError, Global};
-
-fn is_hex_digit(c: u8) -> bool
-    ensures { result ≡ is_hex_digit c }
-{
-    (0x30 <= c && c <= 0x39) || ((0x41 <= c && c <= 0x46) || (0x61 <= c && c <= 0x66))
-}
 
 /// What a hexadecimal digit says, and 0 of another byte.
 fn nibble_of(c: u8) -> u8
     ensures value { result ≡ nibble c }
     ensures bound { result < 16 }
 {
-    if 0x30 <= c && c <= 0x39 {
-        c - 0x30
-    } else if 0x41 <= c && c <= 0x46 {
-        c - 0x37
-    } else if 0x61 <= c && c <= 0x66 {
-        c - 0x57
-    } else {
-        0
+    match c {
+        b'0'..=b'9' => c - b'0',
+        b'A'..=b'F' => c - b'A' + 10,
+        b'a'..=b'f' => c - b'a' + 10,
+        _ => 0,
     }
+}
+
+fn all_digits(word: &[u8]) -> bool
+    ensures { result ≡ list_all is_hex_digit word.now }
+{
+    word.iter().all(|c| c.is_ascii_hexdigit())
 }
 
 /// Whether a word is pairs of hexadecimal digits and nothing else. Bytes written as digits are such, and are read back.
@@ -30,30 +28,18 @@ pub fn is_hex(word: &[u8]) -> bool
     ensures value { result ≡ is_hex word.now }
     ensures back { (bs : List ℕ) → ((i : ℕ) → slice_index bs i < 256) → (is_hex (hex_of bs) ≡ true) × (bytes_in (hex_of bs) ≡ bs) }
 {
-    let mut n = 0usize;
-    while n < word.len() {
-        if word.len() - n < 2 {
-            return false;
-        }
-        if !is_hex_digit(word[n]) || !is_hex_digit(word[n + 1]) {
-            return false;
-        }
-        n += 2;
-    }
-    true
+    word.len() % 2 == 0 && all_digits(word)
 }
 
 /// The bytes that pairs of hexadecimal digits say.
 pub fn read_hex(heap: Global, word: &[u8]) -> Result<Vec<u8>, AllocError>
     ensures { IfOk result (λ v. v.items ≡ bytes_in word.now) }
 {
-    let mut bytes = Vec::new(heap);
-    let mut n = 0usize;
-    while n < word.len() && 1 < word.len() - n {
-        bytes.push(nibble_of(word[n]) * 16 + nibble_of(word[n + 1]))?;
-        n += 2;
-    }
-    Ok(bytes)
+    let (pairs, _) = word.as_chunks::<2>();
+    pairs
+        .iter()
+        .map(|[high, low]| nibble_of(*high) * 16 + nibble_of(*low))
+        .collect(heap)
 }
 
 /// The digit of a number below 16, in capitals.
@@ -61,16 +47,16 @@ fn hex_digit(n: u8) -> u8
     requires { n < 16 }
     ensures { result ≡ digit_of n }
 {
-    if n < 10 { 0x30 + n } else { 0x37 + n }
+    if n < 10 { b'0' + n } else { b'A' + (n - 10) }
 }
 
 /// Appends bytes to a text as pairs of hexadecimal digits.
 pub fn push_hex(text: &mut Vec<u8>, bytes: &[u8]) -> Result<(), AllocError>
     ensures { OnOk result (text.new.items ≡ text.old.items ++ hex_of bytes.now) }
 {
-    for b in bytes {
-        text.push(hex_digit(*b / 16))?;
-        text.push(hex_digit(*b % 16))?;
+    for byte in bytes {
+        text.push(hex_digit(*byte / 16))?;
+        text.push(hex_digit(*byte % 16))?;
     }
     Ok(())
 }

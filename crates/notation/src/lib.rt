@@ -1,8 +1,7 @@
-//! The words of the script language: decimal and hexadecimal numbers, ids and sources, as text and back.
+//! The words of the script language, and decimal and hexadecimal numbers, as text and back.
 #![tactic(auto)]
 
 pub mod hex;
 pub mod numeral;
-pub mod side;
-pub mod wanted;
+pub mod text;
 pub mod words;

@@ -23,21 +23,18 @@ fn wanted_by(heap: Global, name: &[u8], numbers: Vec<u64>) -> Result<Option<Want
         return Ok(Some(Wanted::Clips(numbers)));
     }
     if is_word(name, b"text") {
-        return match shorten(heap, numbers.as_slice())? {
-            Some(units) => Ok(Some(Wanted::Text(units))),
-            None => Ok(None),
-        };
+        return Ok(shorten(heap, numbers.as_slice())?.map(Wanted::Text));
     }
-    if numbers.len() != 1 {
+    let [number] = numbers.as_slice() else {
         return Ok(None);
-    }
+    };
     if is_word(name, b"mark") {
-        return Ok(Some(Wanted::Mark(numbers[0])));
+        Ok(Some(Wanted::Mark(*number)))
+    } else if is_word(name, b"gap") {
+        Ok(Some(Wanted::Gap(*number)))
+    } else {
+        Ok(None)
     }
-    if is_word(name, b"gap") {
-        return Ok(Some(Wanted::Gap(numbers[0])));
-    }
-    Ok(None)
 }
 
 /// The content that a line's words say: `clips`, `text`, `mark` or `gap`, and then numbers.
@@ -45,8 +42,8 @@ pub fn read_wanted(heap: Global, line: &[u8]) -> Result<Option<Wanted>, AllocErr
     ensures { IfOk result (λ o. option_map wants o ≡ wanted_in line.now) }
 {
     let (name, rest) = next_word(line);
-    match read_numbers(heap, rest)? {
-        Some(numbers) => wanted_by(heap, name, numbers),
-        None => Ok(None),
-    }
+    let Some(numbers) = read_numbers(heap, rest)? else {
+        return Ok(None);
+    };
+    wanted_by(heap, name, numbers)
 }

@@ -1,4 +1,3 @@
 mod AnswerLaws
-mod CallLaws
 mod PieceLaws
 mod ScriptLaws

@@ -2,8 +2,8 @@ use Rattle.std.specs.Prelude.{ℕ, min, true, false, cond, ◌&&◌, List, [], �
 use Rattle.std.specs.List.{flat_map}
 use Rattle.making.specs.Recipes.{Recipe, judged}
 use Rattle.making.specs.Packed.{packed, surrogates}
-use Rattle.notation.specs.Wanted.{Want, clips, text, mark, gap}
-use Rattle.transcript.specs.Refusals.{refusal_text}
+use Rattle.spelling.specs.Wanted.{Want, clips, text, mark, gap}
+use Rattle.replies.specs.Refusals.{refusal_text}
 
 -- The recipe for what is wanted. A gap's length beyond 32 bits stands for the largest that they hold: both are refused.
 abbrev pub asked : Want → Recipe

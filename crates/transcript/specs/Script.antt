@@ -1,6 +1,7 @@
 use Rattle.std.specs.Prelude.{ℕ, Bool, cond, ◌||◌, List, [], ◌∷◌, ◌++◌, ◌==◌, slice_index}
 use Rattle.std.specs.List.{flat_map}
-use Rattle.transcript.specs.Calls.{ended, call_in}
+use Rattle.lines.specs.Parts.{ended}
+use Rattle.lines.specs.Calls.{call_in}
 use Rattle.transcript.specs.Answers.{answer_to}
 
 -- A line of blanks only, or one that starts with #, gives no answer.

@@ -3,40 +3,19 @@ ghost use Rattle.source.specs.Meaning.{start_of, end_of};
 ghost use Rattle.record_writer.specs.Encoding.{refused};
 ghost use Rattle.record.specs.Decoding.{decode};
 ghost use Rattle.notation.specs.Hex.{hex_of};
-ghost use Rattle.transcript.specs.Calls.{call_of, call_in};
-ghost use Rattle.transcript.specs.Answers.{room_for, layer_text, fault_text, write_text, decode_text, answer_to};
+ghost use Rattle.lines.specs.Calls.{call_of, call_in};
+ghost use Rattle.transcript.specs.Answers.{room_for, write_text, decode_text, answer_to};
 
-use crate::call::{Call, read_call};
 use crate::pieces::push_pieces;
-use crate::refusal::push_refusal;
+use lines::call::{Call, read_call};
 use notation::hex::{push_hex, read_hex};
 use notation::numeral::push_number;
-use notation::side::push_source;
-use record::fault::{Layer, RecordFault};
 use record::reader::decode_weak_link;
 use record_writer::writer::encode_weak_link;
+use replies::refusal::{push_fault, push_refusal};
 use source::weak::LinkSource;
+use spelling::side::push_source;
 use std::alloc::{AllocError, Global};
-
-fn push_layer(text: &mut Vec<u8>, layer: Layer) -> Result<(), AllocError>
-    ensures { OnOk result (text.new.items ≡ text.old.items ++ layer_text layer) }
-{
-    match layer {
-        Layer::Number => text.extend_from_slice(b"number"),
-        Layer::Record => text.extend_from_slice(b"record"),
-    }
-}
-
-/// Appends a record's refusal: its number, its offset and its layer.
-fn push_fault(heap: Global, text: &mut Vec<u8>, fault: RecordFault) -> Result<(), AllocError>
-    ensures { OnOk result (text.new.items ≡ text.old.items ++ fault_text fault) }
-{
-    push_refusal(heap, text, fault.number())?;
-    text.extend_from_slice(b" at ")?;
-    push_number(heap, text, fault.offset() as u64)?;
-    text.extend_from_slice(b" ")?;
-    push_layer(text, fault.layer())
-}
 
 fn push_bytes(text: &mut Vec<u8>, bytes: &[u8]) -> Result<(), AllocError>
     ensures { OnOk result (text.new.items ≡ text.old.items ++ (codes "record " ++ hex_of bytes.now)) }

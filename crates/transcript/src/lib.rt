@@ -2,7 +2,5 @@
 #![tactic(auto)]
 
 pub mod answer;
-pub mod call;
 pub mod pieces;
-mod refusal;
 pub mod script;

@@ -1,8 +1,7 @@
 ghost use Rattle.std.specs.Prelude.{◌≡◌, ◌<◌, ◌≤◌, min, ◌++◌, length, OnOk};
-ghost use Rattle.notation.specs.Wanted.{wants};
+ghost use Rattle.spelling.specs.Wanted.{wants};
 ghost use Rattle.transcript.specs.Pieces.{asked, units_text, halves_text, cut_text, free_table, pieces_text};
 
-use crate::refusal::push_refusal;
 use content::clip_run::ClipRun;
 use content::content::Content;
 use content::gap::Gap;
@@ -10,7 +9,8 @@ use content::mark::Mark;
 use content::text_run::TextRun;
 use making::make::Make;
 use notation::numeral::push_number;
-use notation::wanted::Wanted;
+use replies::refusal::push_refusal;
+use spelling::wanted::Wanted;
 use std::alloc::{AllocError, Global};
 
 /// Appends the units of a content, a blank before each.

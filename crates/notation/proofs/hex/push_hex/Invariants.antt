@@ -2,5 +2,5 @@ use Rattle.std.proofs.Common.{◌≡◌, ◌++◌, take, vec_items}
 use Rattle.notation.specs.Hex.{hex_of}
 use Rattle.notation.proofs.hex.push_hex.Given as goal
 
-abbrev pub invariant-loop-b : goal.invariant-loop-b
-invariant-loop-b l = vec_items l.text ≡ vec_items l.initial.text ++ hex_of (take l.b-index l.bytes)
+abbrev pub invariant-loop-byte : goal.invariant-loop-byte
+invariant-loop-byte l = vec_items l.text ≡ vec_items l.initial.text ++ hex_of (take l.byte-index l.bytes)

@@ -1,7 +1,7 @@
 use Rattle.std.proofs.Common.{[], ◌∷◌, ◌++◌, vec_items, sym, ap, ◌∙◌}
 use Rattle.std.proofs.lemmas.List.{append_assoc}
 use Rattle.std.proofs.lemmas.Bool.{cond-false}
-use Rattle.transcript.specs.Calls.{call_in}
+use Rattle.lines.specs.Calls.{call_in}
 use Rattle.transcript.specs.Answers.{answer_to}
 use Rattle.transcript.specs.Script.{passed_over}
 use Rattle.transcript.proofs.script.push_line.Goals as goal

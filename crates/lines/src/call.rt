@@ -1,17 +1,17 @@
 ghost use Rattle.std.specs.Prelude.{◌≡◌, IfOk};
 ghost use Rattle.std.specs.Option.{option_map};
-ghost use Rattle.transcript.specs.Calls.{call_of, source_in, write_in, decode_in, pieces_in, call_in};
 ghost use Rattle.source.specs.Meaning.{start_of, end_of};
+ghost use Rattle.lines.specs.Calls.{call_of, source_in, write_in, decode_in, pieces_in, named_in, call_in};
 
+use crate::parts::{is_ended, read_front};
 use notation::hex::is_hex;
-use notation::numeral::read_number;
-use notation::side::read_side;
-use notation::wanted::{Wanted, read_wanted};
 use notation::words::{is_word, next_word};
 use source::weak::LinkSource;
+use spelling::side::read_side;
+use spelling::wanted::{Wanted, read_wanted};
 use std::alloc::{AllocError, Global};
 
-/// What a line asks for.
+/// A call that needs no document.
 #[derive(Drop)]
 pub enum Call<'a> {
     /// The record of a source.
@@ -31,54 +31,51 @@ fn read_source<'a>(start: &'a [u8], end: &'a [u8]) -> Option<LinkSource<'a>>
     LinkSource::new(start, end)
 }
 
-/// The call `write START END`, after its first word.
+/// The call `write START END`, after its name.
 fn read_write<'a>(rest: &'a [u8]) -> Option<Call<'a>>
     ensures { option_map call_of result ≡ write_in rest.now }
 {
     let (start, rest) = next_word(rest);
     let (end, rest) = next_word(rest);
-    let (more, _) = next_word(rest);
-    if more.len() > 0 {
+    if !is_ended(rest) {
         return None;
     }
     Some(Call::Write(read_source(start, end)?))
 }
 
-/// The call `decode HEX`, after its first word; without bytes it is an empty record.
+/// The call `decode HEX`, after its name; without bytes it is an empty record.
 fn read_decode<'a>(rest: &'a [u8]) -> Option<Call<'a>>
     ensures { option_map call_of result ≡ decode_in rest.now }
 {
     let (bytes, rest) = next_word(rest);
-    let (more, _) = next_word(rest);
-    if more.len() > 0 {
-        return None;
-    }
-    if is_hex(bytes) {
+    if is_ended(rest) && is_hex(bytes) {
         Some(Call::Decode(bytes))
     } else {
         None
     }
 }
 
-/// The call `pieces OFFSET CONTENT`, after its first word.
+/// The call `pieces OFFSET CONTENT`, after its name.
 fn read_pieces<'a>(heap: Global, rest: &'a [u8]) -> Result<Option<Call<'a>>, AllocError>
     ensures { IfOk result (λ o. option_map call_of o ≡ pieces_in rest.now) }
 {
-    let (word, rest) = next_word(rest);
-    match read_number(word) {
-        Some(offset) => match read_wanted(heap, rest)? {
-            Some(wanted) => Ok(Some(Call::Pieces(offset, wanted))),
-            None => Ok(None),
-        },
-        None => Ok(None),
-    }
+    let Some((offset, rest)) = read_front(rest) else {
+        return Ok(None);
+    };
+    let Some(wanted) = read_wanted(heap, rest)? else {
+        return Ok(None);
+    };
+    Ok(Some(Call::Pieces(offset, wanted)))
 }
 
-/// The call that a line says; none where it says none.
-pub fn read_call<'a>(heap: Global, line: &'a [u8]) -> Result<Option<Call<'a>>, AllocError>
-    ensures { IfOk result (λ o. option_map call_of o ≡ call_in line.now) }
+/// The call of that name, by what stands after its name.
+pub(crate) fn read_named<'a>(
+    heap: Global,
+    name: &[u8],
+    rest: &'a [u8],
+) -> Result<Option<Call<'a>>, AllocError>
+    ensures { IfOk result (λ o. option_map call_of o ≡ named_in name.now rest.now) }
 {
-    let (name, rest) = next_word(line);
     if is_word(name, b"write") {
         Ok(read_write(rest))
     } else if is_word(name, b"decode") {
@@ -88,4 +85,12 @@ pub fn read_call<'a>(heap: Global, line: &'a [u8]) -> Result<Option<Call<'a>>, A
     } else {
         Ok(None)
     }
+}
+
+/// The call that a line says; none where it says none that needs no document.
+pub fn read_call<'a>(heap: Global, line: &'a [u8]) -> Result<Option<Call<'a>>, AllocError>
+    ensures { IfOk result (λ o. option_map call_of o ≡ call_in line.now) }
+{
+    let (name, rest) = next_word(line);
+    read_named(heap, name, rest)
 }
