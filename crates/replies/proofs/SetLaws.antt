@@ -1,4 +1,4 @@
-use Rattle.std.proofs.Common.{◌≡◌, ℕ, ◌+◌, ◌/◌, ◌%◌, ◌^◌, Bool, true, false, cond, List, [], ◌∷◌, ◌++◌, decimal, filter, sym, refl, ap, ◌∙◌, arith}
+use Rattle.std.proofs.Common.{◌≡◌, ℕ, ◌+◌, ◌/◌, ◌%◌, ◌^◌, Bool, cond, List, [], ◌∷◌, ◌++◌, decimal, filter, sym, refl, ap, ◌∙◌, arith}
 use Rattle.std.specs.List.{range_with_len}
 use Rattle.std.proofs.lemmas.List.{append-nil, append_assoc, flat_map_more, map-id}
 use Rattle.std.proofs.lemmas.Bool.{eq-eqb, ne_eqb, cond-true, cond-false}
@@ -6,10 +6,10 @@ use Rattle.std.proofs.lemmas.List.FromFn.{filter_of_map_range_with_len_more}
 use Rattle.law.specs.Faces.{bit}
 use Rattle.replies.specs.Sets.{links_below, listed}
 
--- No number is there.
-abbrev pub none : List ℕ → Bool
-none [] = true
-none (n ∷ ns) = false
+-- What stands between these numbers and one more.
+abbrev pub separator_after : List ℕ → List ℕ
+separator_after [] = []
+separator_after (n ∷ ns) = 0x2C ∷ []
 
 -- One link more to look at.
 links_more : (n links : ℕ) → links_below (n + 1) links ≡ links_below n links ++ cond (bit n links) (n ∷ []) []
@@ -20,27 +20,28 @@ links_more n links =
     ∙ (filter_of_map_range_with_len_more p (λ k. k) 0 n n (omega arith)
     ∙ ap (λ q. filter p q ++ cond (bit n links) (n ∷ []) []) (map-id (range_with_len 0 n)))
 
--- One number more to list, after a comma unless it is the first.
-listed_push : (ns : List ℕ) (n : ℕ) → listed (ns ++ n ∷ []) ≡ listed ns ++ (cond (none ns) [] (0x2C ∷ []) ++ decimal n)
+-- One number more to list.
+listed_push : (ns : List ℕ) (n : ℕ) → listed (ns ++ n ∷ []) ≡ listed ns ++ (separator_after ns ++ decimal n)
 listed_push [] n = append-nil (decimal n)
 listed_push (m ∷ ms) n = sym (flat_map_more (λ k. 0x2C ∷ decimal k) (decimal m) ms n)
 
-none_push : (ns : List ℕ) (n : ℕ) → false ≡ none (ns ++ n ∷ [])
-none_push [] n = refl
-none_push (m ∷ ms) n = refl
+separator_push : (ns : List ℕ) (n : ℕ) → 0x2C ∷ [] ≡ separator_after (ns ++ n ∷ [])
+separator_push [] n = refl
+separator_push (m ∷ ms) n = refl
 
 -- A link that is in the set, and one that is not.
-pub set_more : (before was next : List ℕ) (n links : ℕ) (first : Bool) → links / 2 ^ n % 2 ≡ 1 → first ≡ none (links_below n links)
-    → was ≡ before ++ listed (links_below n links) → next ≡ was ++ (cond first [] (0x2C ∷ []) ++ decimal n)
-    → (next ≡ before ++ listed (links_below (n + 1) links)) × (false ≡ none (links_below (n + 1) links))
+pub set_more : (before was mid next separator : List ℕ) (n links : ℕ) → links / 2 ^ n % 2 ≡ 1 → separator ≡ separator_after (links_below n links)
+    → was ≡ before ++ listed (links_below n links) → mid ≡ was ++ separator → next ≡ mid ++ decimal n
+    → (next ≡ before ++ listed (links_below (n + 1) links)) × (0x2C ∷ [] ≡ separator_after (links_below (n + 1) links))
 unfolding bit
-set_more before was next n links first b f e p =
+set_more before was mid next separator n links b f e m p =
     let ns : List ℕ = links_below n links in
     let more : links_below (n + 1) links ≡ ns ++ n ∷ [] = links_more n links ∙ ap (λ q. ns ++ q) (cond-true (bit n links) (n ∷ []) [] (eq-eqb (links / 2 ^ n % 2) 1 b)) in (
-      p ∙ (ap (λ q. q ++ (cond first [] (0x2C ∷ []) ++ decimal n)) e
-          ∙ (ap (λ q. (before ++ listed ns) ++ (cond q [] (0x2C ∷ []) ++ decimal n)) f
-          ∙ (append_assoc before (listed ns) (cond (none ns) [] (0x2C ∷ []) ++ decimal n) ∙ ap (λ q. before ++ q) (sym (listed_push ns n) ∙ ap listed (sym more))))),
-      none_push ns n ∙ ap none (sym more),
+      p ∙ (ap (λ q. q ++ decimal n) m ∙ append_assoc was separator (decimal n))
+          ∙ (ap (λ q. q ++ (separator ++ decimal n)) e
+          ∙ (ap (λ q. (before ++ listed ns) ++ (q ++ decimal n)) f
+          ∙ (append_assoc before (listed ns) (separator_after ns ++ decimal n) ∙ ap (λ q. before ++ q) (sym (listed_push ns n) ∙ ap listed (sym more))))),
+      separator_push ns n ∙ ap separator_after (sym more),
     )
 
 pub set_same : (n links : ℕ) → (links / 2 ^ n % 2 ≡ 1 → ⊥) → links_below (n + 1) links ≡ links_below n links

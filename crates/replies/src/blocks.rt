@@ -1,27 +1,23 @@
-ghost use Rattle.std.specs.Prelude.{◌≡◌, ◌++◌, OnOk};
+ghost use Rattle.std.specs.Prelude.{◌≡◌, ◌++◌, Some, OnOk};
 ghost use Rattle.std.specs.Option.{option_map};
 ghost use Rattle.source.specs.Meaning.{id_of};
 ghost use Rattle.replies.specs.Blocks.{mark_text, block_text, anchor_text, origin_text};
 
 use crate::link_set::push_set;
-use notation::numeral::push_number;
+use notation::text::push_shown;
 use source::id::Id;
-use spelling::side::push_id;
-use std::alloc::{AllocError, Global};
+use std::alloc::AllocError;
+use std::fmt;
 
-/// Appends `x` for a removed block.
-fn push_mark(text: &mut Vec<u8>, removed: bool) -> Result<(), AllocError>
-    ensures { OnOk result (text.new.items ≡ text.old.items ++ mark_text removed) }
+/// `x` for a removed block.
+fn mark_of(removed: bool) -> &'static str
+    ensures { result.now ≡ mark_text removed }
 {
-    if removed {
-        text.push(b'x')?;
-    }
-    Ok(())
+    if removed { "x" } else { "" }
 }
 
 /// Appends a blank and a block: its first id, its length, whether it is removed, and its link set.
 pub fn push_block(
-    heap: Global,
     text: &mut Vec<u8>,
     first: Id,
     len: u32,
@@ -30,27 +26,28 @@ pub fn push_block(
 ) -> Result<(), AllocError>
     ensures { OnOk result (text.new.items ≡ text.old.items ++ block_text (id_of first) len removed links) }
 {
-    text.push(b' ')?;
-    push_id(heap, text, first)?;
-    text.push(b'+')?;
-    push_number(heap, text, len as u64)?;
-    push_mark(text, removed)?;
-    push_set(heap, text, links)
+    let mark = mark_of(removed);
+    push_shown(text, &format_args!(" {first}+{len}{mark}"))?;
+    push_set(text, links)
 }
 
-/// Appends the id of an origin, or a dot where there is none.
-fn push_anchor(heap: Global, text: &mut Vec<u8>, anchor: Option<Id>) -> Result<(), AllocError>
-    ensures { OnOk result (text.new.items ≡ text.old.items ++ anchor_text (option_map id_of anchor)) }
-{
-    match anchor {
-        Some(id) => push_id(heap, text, id),
-        None => text.extend_from_slice(b"."),
+/// An origin: its id, or a dot where there is none.
+#[derive(Clone, Copy)]
+struct Anchor(Option<Id>);
+
+impl fmt::Display for Anchor {
+    ghost output = { λ a. Some (anchor_text (option_map id_of a.0)) };
+
+    fn fmt<W: fmt::Write>(&self, f: &mut fmt::Formatter<W>) -> fmt::Result {
+        match self.0 {
+            Some(id) => write!(f, "{id}"),
+            None => write!(f, "."),
+        }
     }
 }
 
 /// Appends a blank and a block's origins: its first id, its origin and its right origin.
 pub fn push_origin(
-    heap: Global,
     text: &mut Vec<u8>,
     first: Id,
     origin: Option<Id>,
@@ -58,10 +55,7 @@ pub fn push_origin(
 ) -> Result<(), AllocError>
     ensures { OnOk result (text.new.items ≡ text.old.items ++ origin_text (id_of first) (option_map id_of origin) (option_map id_of right)) }
 {
-    text.push(b' ')?;
-    push_id(heap, text, first)?;
-    text.push(b'<')?;
-    push_anchor(heap, text, origin)?;
-    text.push(b'>')?;
-    push_anchor(heap, text, right)
+    let left = Anchor(origin);
+    let right = Anchor(right);
+    push_shown(text, &format_args!(" {first}<{left}>{right}"))
 }

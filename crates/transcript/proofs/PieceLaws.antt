@@ -13,13 +13,13 @@ unit_told x l n k u us h i e =
     same_some u (get_or us k 0) (e ∙ (cond-true (leb x l) _ _ (le-leb x l h) ∙ cond-true (ltb k n) _ _ (lt-ltb k n i)))
 
 -- One unit more, with a blank before it.
-pub units_more : (before was one two us : List ℕ) (k u : ℕ) → k < length us → u ≡ get_or us k 0 → was ≡ before ++ units_text (take k us)
-    → one ≡ was ++ 0x20 ∷ [] → two ≡ one ++ decimal u → two ≡ before ++ units_text (take (k + 1) us)
-units_more before was one two us k u h a e p q =
+pub units_more : (before was next us : List ℕ) (k u : ℕ) → k < length us → u ≡ get_or us k 0 → was ≡ before ++ units_text (take k us)
+    → next ≡ was ++ 0x20 ∷ decimal u → next ≡ before ++ units_text (take (k + 1) us)
+units_more before was next us k u h a e p =
     let f : ℕ → List ℕ = λ v. 0x20 ∷ decimal v in
-    q ∙ (ap (λ z. z ++ decimal u) p ∙ (append_assoc was (0x20 ∷ []) (decimal u) ∙ (ap (λ z. z ++ f u) e
+    p ∙ (ap (λ z. z ++ f u) e
     ∙ (flat_map_more f before (take k us) u
-    ∙ (ap (λ z. before ++ units_text (take k us ++ z ∷ [])) a ∙ ap (λ z. before ++ units_text z) (sym (take_more us k 0 h)))))))
+    ∙ (ap (λ z. before ++ units_text (take k us ++ z ∷ [])) a ∙ ap (λ z. before ++ units_text z) (sym (take_more us k 0 h)))))
 
 -- The pieces' units are the first of the whole's, and the others.
 pub pieces_units : {C : Type 0} {size : C → ℕ} {counts : C → Bool} {reach : C → ℕ} {units : List ℕ → C → List ℕ} (k : ℕ) (c l r : C) (t : List ℕ)

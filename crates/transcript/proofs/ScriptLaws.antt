@@ -1,41 +1,43 @@
-use Rattle.std.proofs.Common.{◌≡◌, ℕ, suc, ◌+◌, ◌-◌, Bool, true, false, cond, not, eqb, List, [], ◌∷◌, ◌++◌, length, take, drop, sym, ap, ◌∙◌, add_assoc, one-add, arith}
-use Rattle.std.specs.List.{flat_map}
-use Rattle.std.proofs.lemmas.List.{append_assoc, append-nil, drop-drop, take_rest}
-use Rattle.notation.specs.Words.{up_to}
-use Rattle.transcript.specs.Script.{answer_line, lines_from, transcript}
+use Rattle.std.proofs.Common.{◌≡◌, ℕ, Bool, true, false, cond, eqb, List, [], ◌∷◌, ◌++◌, map, sym, refl, ap, ◌∙◌}
+use Rattle.std.specs.List.{slice_split, onto_first, flat_map}
+use Rattle.std.proofs.lemmas.List.{append_assoc, append-nil, map-append, flat_map_more}
+use Rattle.transcript.specs.Script.{lines_from, lines_in}
 
-by_byte : (t : Bool) (front bs : List ℕ) (b : ℕ)
-    → flat_map answer_line (lines_from (front ++ b ∷ []) bs) ≡ answer_line ((front ++ b ∷ []) ++ take (up_to 0x0A bs) bs) ++ transcript (drop (up_to 0x0A bs + 1) bs)
-    → flat_map answer_line (cond t (front ∷ lines_from [] bs) (lines_from (front ++ b ∷ []) bs))
-    ≡ answer_line (front ++ take (cond (not t) (1 + up_to 0x0A bs) 0) (b ∷ bs)) ++ transcript (drop (cond (not t) (1 + up_to 0x0A bs) 0 + 1) (b ∷ bs))
-by_byte true front bs b h = ap (λ q. answer_line q ++ transcript bs) (sym (append-nil front))
-by_byte false front bs b h =
-    let n : ℕ = up_to 0x0A bs in
-    let k : suc n ≡ 1 + n = sym (one-add n) in
-    let l : suc (n + 1) ≡ 1 + n + 1 = omega arith in
-    h ∙ (ap (λ q. answer_line q ++ transcript (drop (n + 1) bs)) (append_assoc front (b ∷ []) (take n bs))
-    ∙ (ap (λ q. answer_line (front ++ take q (b ∷ bs)) ++ transcript (drop (n + 1) bs)) k
-    ∙ ap (λ q. answer_line (front ++ take (1 + n) (b ∷ bs)) ++ transcript (drop q (b ∷ bs))) l))
+-- Lines of which the first has these bytes in front.
+abbrev in_front : List ℕ → List (List ℕ) → List (List ℕ)
+in_front front [] = front ∷ []
+in_front front (line ∷ lines) = (front ++ line) ∷ lines
 
--- The first line of a script, of which the front is known already, and what comes after it.
-first_line : (front bs : List ℕ) → flat_map answer_line (lines_from front bs) ≡ answer_line (front ++ take (up_to 0x0A bs) bs) ++ transcript (drop (up_to 0x0A bs + 1) bs)
-first_line front [] = ap (λ q. answer_line q ++ []) (sym (append-nil front))
-first_line front (b ∷ bs) = by_byte (eqb b 0x0A) front bs b (first_line (front ++ b ∷ []) bs)
+onto_front : (front : List ℕ) (b : ℕ) (lines : List (List ℕ)) → in_front (front ++ b ∷ []) lines ≡ in_front front (onto_first b lines)
+onto_front front b [] = refl
+onto_front front b (line ∷ lines) = ap (λ q. q ∷ lines) (append_assoc front (b ∷ []) line)
 
-line_next : (bs : List ℕ) (n : ℕ) → n ≡ up_to 0x0A bs → transcript bs ≡ answer_line (take n bs) ++ transcript (drop (n + 1) bs)
-line_next bs n e = first_line [] bs ∙ ap (λ k. answer_line (take k bs) ++ transcript (drop (k + 1) bs)) (sym e)
+-- No bytes in front change nothing.
+none_by : (t : Bool) (b : ℕ) (lines : List (List ℕ)) → in_front [] (cond t ([] ∷ lines) (onto_first b lines)) ≡ cond t ([] ∷ lines) (onto_first b lines)
+none_by true b lines = refl
+none_by false b [] = refl
+none_by false b (line ∷ lines) = refl
 
--- One line more of a script, from a place in it on.
-pub line_more : (was text script : List ℕ) (p n : ℕ) → n ≡ up_to 0x0A (take (length script - p) (drop p script))
-    → was ++ transcript (drop p script) ≡ transcript script → text ≡ was ++ answer_line (take (p + n - p) (drop p script))
-    → text ++ transcript (drop (p + n + 1) script) ≡ transcript script
-line_more was text script p n e i t =
-    let bs : List ℕ = drop p script in
-    let m : n ≡ up_to 0x0A bs = e ∙ ap (up_to 0x0A) (take_rest script p) in
-    let k : p + n - p ≡ n = omega arith in
-    let d : drop (p + n + 1) script ≡ drop (n + 1) bs = ap (λ q. drop q script) (add_assoc p n 1) ∙ sym (drop-drop (n + 1) p script) in
-    let a : text ≡ was ++ answer_line (take n bs) = t ∙ ap (λ q. was ++ answer_line (take q bs)) k in
-    ap (λ q. text ++ transcript q) d
-    ∙ (ap (λ q. q ++ transcript (drop (n + 1) bs)) a
-    ∙ (append_assoc was (answer_line (take n bs)) (transcript (drop (n + 1) bs))
-    ∙ (ap (λ q. was ++ q) (sym (line_next bs n m)) ∙ i)))
+none_in_front : (bs : List ℕ) → in_front [] (slice_split (λ b. eqb b 0x0A) bs) ≡ slice_split (λ b. eqb b 0x0A) bs
+none_in_front [] = refl
+none_in_front (b ∷ bs) = none_by (eqb b 0x0A) b (slice_split (λ c. eqb c 0x0A) bs)
+
+by_byte : (t : Bool) (front : List ℕ) (b : ℕ) (bs : List ℕ) (lines : List (List ℕ)) → in_front [] lines ≡ lines
+    → ((before : List ℕ) → lines_from before bs ≡ in_front before lines)
+    → cond t (front ∷ lines_from [] bs) (lines_from (front ++ b ∷ []) bs) ≡ in_front front (cond t ([] ∷ lines) (onto_first b lines))
+by_byte true front b bs lines e h = ap (λ q. q ∷ lines_from [] bs) (sym (append-nil front)) ∙ ap (λ q. (front ++ []) ∷ q) (h [] ∙ e)
+by_byte false front b bs lines e h = h (front ++ b ∷ []) ∙ onto_front front b lines
+
+split_from : (bs front : List ℕ) → lines_from front bs ≡ in_front front (slice_split (λ b. eqb b 0x0A) bs)
+split_from [] front = ap (λ q. q ∷ []) (sym (append-nil front))
+split_from (b ∷ bs) front = by_byte (eqb b 0x0A) front b bs (slice_split (λ c. eqb c 0x0A) bs) (none_in_front bs) (split_from bs)
+
+-- The lines of a script are its parts between line feeds.
+pub lines_split : (bs : List ℕ) → slice_split (λ b. eqb b 0x0A) bs ≡ lines_in bs
+lines_split bs = sym (split_from bs [] ∙ none_in_front bs)
+
+-- What a function gives of one line more.
+pub more_told : {A : Type 0} (view : A → List ℕ) (f : List ℕ → List ℕ) (was next : List ℕ) (xs : List A) (x : A)
+    → was ≡ flat_map f (map view xs) → next ≡ was ++ f (view x) → next ≡ flat_map f (map view (xs ++ x ∷ []))
+more_told view f was next xs x e p =
+    p ∙ (ap (λ q. q ++ f (view x)) e ∙ (flat_map_more f [] (map view xs) (view x) ∙ ap (flat_map f) (sym (map-append view xs (x ∷ [])))))

@@ -8,36 +8,27 @@ use content::gap::Gap;
 use content::mark::Mark;
 use content::text_run::TextRun;
 use making::make::Make;
-use notation::numeral::push_number;
+use notation::text::push_shown;
 use replies::refusal::push_refusal;
 use spelling::wanted::Wanted;
-use std::alloc::{AllocError, Global};
+use std::alloc::AllocError;
 
 /// Appends the units of a content, a blank before each.
-fn push_units<C: Content>(
-    heap: Global,
-    text: &mut Vec<u8>,
-    content: &C,
-    words: &[u64],
-) -> Result<(), AllocError>
+fn push_units<C: Content>(text: &mut Vec<u8>, content: &C, words: &[u64]) -> Result<(), AllocError>
     requires { C.Content.reach content.now ≤ length words.now }
     ensures { OnOk result (text.new.items ≡ text.old.items ++ units_text (C.Content.units words.now content.now)) }
 {
     for k in 0..content.len() {
-        match content.unit(words, k) {
-            Some(unit) => {
-                text.push(b' ')?;
-                push_number(heap, text, unit)?;
-            }
-            None => unreachable(),
-        }
+        let Some(unit) = content.unit(words, k) else {
+            unreachable!();
+        };
+        push_shown(text, &format_args!(" {unit}"))?;
     }
     Ok(())
 }
 
 /// Appends the units of both pieces of a content, cut at an offset.
 fn push_halves<C: Content>(
-    heap: Global,
     text: &mut Vec<u8>,
     content: &C,
     offset: u32,
@@ -50,14 +41,13 @@ fn push_halves<C: Content>(
 {
     let (fore, rear) = content.cut(offset);
     text.extend_from_slice(b"pieces")?;
-    push_units(heap, text, &fore, words)?;
+    push_units(text, &fore, words)?;
     text.extend_from_slice(b" |")?;
-    push_units(heap, text, &rear, words)
+    push_units(text, &rear, words)
 }
 
 /// Appends both pieces' units of a content in the used words; an offset at which it cannot be cut is refused 10.
 fn push_cut<C: Content>(
-    heap: Global,
     text: &mut Vec<u8>,
     content: &C,
     offset: u64,
@@ -66,10 +56,10 @@ fn push_cut<C: Content>(
     requires { C.Content.reach content.now ≤ length words.now }
     ensures { OnOk result (text.new.items ≡ text.old.items ++ cut_text offset (C.Content.units words.now content.now)) }
 {
-    if 0 < offset && offset < content.len() as u64 {
-        push_halves(heap, text, content, offset as u32, words)
+    if 0 < offset && offset < u64::from(content.len()) {
+        push_halves(text, content, offset as u32, words)
     } else {
-        push_refusal(heap, text, 10)
+        push_refusal(text, 10)
     }
 }
 
@@ -77,16 +67,11 @@ fn push_cut<C: Content>(
 fn saturated(n: u64) -> u32
     ensures { result ≡ min n 0xFFFF_FFFF }
 {
-    if n > 0xFFFF_FFFF {
-        0xFFFF_FFFF
-    } else {
-        n as u32
-    }
+    u32::try_from(n).unwrap_or(u32::MAX)
 }
 
 /// Makes a content in a table of free words, all 0, and appends its pieces' units; or why not.
 fn push_made<R, C: Make<R>>(
-    heap: Global,
     text: &mut Vec<u8>,
     offset: u64,
     recipe: R,
@@ -96,14 +81,13 @@ fn push_made<R, C: Make<R>>(
     ensures { OnOk result (text.new.items ≡ text.old.items ++ pieces_text (C.Make.asks recipe) offset) }
 {
     match C::make(recipe, words, 0) {
-        Ok(m) => push_cut(heap, text, &m.content, offset, &words[0..m.used as usize]),
-        Err(refusal) => push_refusal(heap, text, refusal.number()),
+        Ok(m) => push_cut(text, &m.content, offset, &words[0..m.used as usize]),
+        Err(refusal) => push_refusal(text, refusal.number()),
     }
 }
 
 /// The same for whichever content is wanted.
 fn push_wanted(
-    heap: Global,
     text: &mut Vec<u8>,
     offset: u64,
     wanted: &Wanted,
@@ -113,34 +97,17 @@ fn push_wanted(
     ensures { OnOk result (text.new.items ≡ text.old.items ++ pieces_text (asked (wants wanted.now)) offset) }
 {
     match wanted {
-        Wanted::Clips(units) => push_made::<&[u64], ClipRun>(
-            heap,
-            text,
-            offset,
-            units.as_slice(),
-            words,
-        ),
-        Wanted::Text(units) => push_made::<&[u16], TextRun>(
-            heap,
-            text,
-            offset,
-            units.as_slice(),
-            words,
-        ),
-        Wanted::Mark(unit) => push_made::<u64, Mark>(heap, text, offset, *unit, words),
-        Wanted::Gap(len) => push_made::<u32, Gap>(heap, text, offset, saturated(*len), words),
+        Wanted::Clips(units) => push_made::<&[u64], ClipRun>(text, offset, units.as_slice(), words),
+        Wanted::Text(units) => push_made::<&[u16], TextRun>(text, offset, units.as_slice(), words),
+        Wanted::Mark(unit) => push_made::<u64, Mark>(text, offset, *unit, words),
+        Wanted::Gap(len) => push_made::<u32, Gap>(text, offset, saturated(*len), words),
     }
 }
 
 /// The answer to `pieces`: what is wanted is made, cut, and its pieces' units told.
-pub fn push_pieces(
-    heap: Global,
-    text: &mut Vec<u8>,
-    offset: u64,
-    wanted: &Wanted,
-) -> Result<(), AllocError>
+pub fn push_pieces(text: &mut Vec<u8>, offset: u64, wanted: &Wanted) -> Result<(), AllocError>
     ensures { OnOk result (text.new.items ≡ text.old.items ++ pieces_text (asked (wants wanted.now)) offset) }
 {
-    let mut table = vec![in heap; 0u64; 65_536]?;
-    push_wanted(heap, text, offset, wanted, table.as_mut_slice())
+    let mut table = vec![in *text.allocator(); 0u64; 65_536]?;
+    push_wanted(text, offset, wanted, table.as_mut_slice())
 }

@@ -2,7 +2,7 @@ ghost use Rattle.std.specs.Prelude.{◌≡◌, ◌++◌, IfOk, OnOk};
 ghost use Rattle.transcript.specs.Script.{passed_over, answer_line, transcript};
 
 use crate::answer::push_answer;
-use notation::words::{find_byte, next_word};
+use notation::words::next_word;
 use std::alloc::{AllocError, Global};
 
 /// Whether a line gives no answer: it has no word, or starts with `#`.
@@ -10,20 +10,17 @@ fn is_passed_over(line: &[u8]) -> bool
     ensures { result ≡ passed_over line.now }
 {
     let (word, _) = next_word(line);
-    if word.len() == 0 {
-        return true;
-    }
-    line.len() > 0 && line[0] == b'#'
+    word.is_empty() || matches!(line, [b'#', ..])
 }
 
 /// Appends the answer of one line, and a line feed.
-fn push_line(heap: Global, text: &mut Vec<u8>, line: &[u8]) -> Result<(), AllocError>
+fn push_line(text: &mut Vec<u8>, line: &[u8]) -> Result<(), AllocError>
     ensures { OnOk result (text.new.items ≡ text.old.items ++ answer_line line.now) }
 {
     if is_passed_over(line) {
         return Ok(());
     }
-    push_answer(heap, text, line)?;
+    push_answer(text, line)?;
     text.push(b'\n')?;
     Ok(())
 }
@@ -33,11 +30,8 @@ pub fn run(heap: Global, script: &[u8]) -> Result<Vec<u8>, AllocError>
     ensures { IfOk result (λ text. text.items ≡ transcript script.now) }
 {
     let mut text = Vec::new(heap);
-    let mut at = 0usize;
-    while at < script.len() {
-        let n = find_byte(&script[at..], b'\n');
-        push_line(heap, &mut text, &script[at..at + n])?;
-        at = at + n + 1;
+    for line in script.split(|b| *b == b'\n') {
+        push_line(&mut text, line)?;
     }
     Ok(text)
 }

@@ -11,8 +11,8 @@ loop-k-preserved g c =
     let us = g.C.Content.units words content in
     let sized = g.met.C.Content.sized words content c.loop-k.invariant.1 in
     let len = c.len-k-end.ensures in (
-      units_more _ _ _ _ us c.loop-k.k c.in-Some.unit (omega arith) (unit_told _ _ _ _ _ us c.loop-k.invariant.1 (omega arith) c.in-Some.ensures) c.loop-k.invariant.0
-          c.in_ok-push-in-Some.ensures.items c.in_ok-push_number-in-Some.ensures,
+      units_more _ _ _ us c.loop-k.k c.in-Some.unit (omega arith) (unit_told _ _ _ _ _ us c.loop-k.invariant.1 (omega arith) c.in-Some.ensures) c.loop-k.invariant.0
+          c.in_ok-push_shown.ensures,
       c.loop-k.invariant.1,
     )
 

@@ -1,9 +1,7 @@
-use Rattle.std.proofs.Common.{◌≡◌, ◌+◌, ◌-◌, ◌++◌, length, drop, vec_items}
-use Rattle.transcript.specs.Script.{transcript}
+use Rattle.std.proofs.Common.{◌≡◌, vec_items, map}
+use Rattle.std.specs.List.{flat_map}
+use Rattle.transcript.specs.Script.{answer_line}
 use Rattle.transcript.proofs.script.run.Given as goal
 
-abbrev pub invariant-loop-at : goal.invariant-loop-at
-invariant-loop-at l = vec_items l.text ++ transcript (drop l.«at» l.script) ≡ transcript l.script
-
-abbrev pub decreases-loop-at : goal.decreases-loop-at
-decreases-loop-at l = length l.script + 1 - l.«at»
+abbrev pub invariant-loop-line : goal.invariant-loop-line
+invariant-loop-line l = vec_items l.text ≡ flat_map answer_line (map (λ line. line.now) l.yielded)
