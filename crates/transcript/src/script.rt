@@ -1,9 +1,12 @@
-ghost use Rattle.std.specs.Prelude.{◌≡◌, ◌++◌, IfOk, OnOk};
+ghost use Rattle.std.specs.Prelude.{◌≡◌, ◌++◌, IfOk, OnOk, IfSome};
+ghost use Rattle.std.specs.Io.KnownBytes.{Appends, IsAtEnd};
 ghost use Rattle.transcript.specs.Script.{passed_over, answer_line, transcript};
 
 use crate::answer::push_answer;
 use notation::words::next_word;
 use std::alloc::{AllocError, Global};
+use std::io;
+use std::io::{Read, Write};
 
 /// Whether a line gives no answer: it has no word, or starts with `#`.
 fn is_passed_over(line: &[u8]) -> bool
@@ -34,4 +37,15 @@ pub fn run(heap: Global, script: &[u8]) -> Result<Vec<u8>, AllocError>
         push_line(&mut text, line)?;
     }
     Ok(text)
+}
+
+/// Runs the script that a reader gives, to its end, and writes its transcript.
+pub fn transcribe<R: Read, W: Write>(heap: Global, reader: &mut R, writer: &mut W) -> io::Result<()>
+    ensures read { OnOk result (IsAtEnd (R.Read.remaining reader.new)) }
+    ensures written { OnOk result (IfSome (R.Read.remaining reader.old) (λ script. Appends (W.Write.contents writer.old) (W.Write.contents writer.new) (transcript script))) }
+{
+    let mut script = Vec::new(heap);
+    reader.read_to_end(&mut script)?;
+    let text = run(heap, script.as_slice())?;
+    writer.write_all(text.as_slice())
 }

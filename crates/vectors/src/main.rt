@@ -2,12 +2,8 @@
 #![tactic(auto)]
 
 use std::io;
-use std::io::{Read, Write};
-use transcript::script::run;
+use transcript::script::transcribe;
 
 fn main(rt: HostRuntime) -> io::Result<()> {
-    let mut script = Vec::new(rt.alloc());
-    rt.stdin().read_to_end(&mut script)?;
-    let text = run(rt.alloc(), script.as_slice())?;
-    rt.stdout().write_all(text.as_slice())
+    transcribe(rt.alloc(), &mut rt.stdin(), &mut rt.stdout())
 }
