@@ -24,8 +24,8 @@ abbrev pub line_of : Line → Asked
 line_of (Document b w) = document b w
 line_of (Open n) = open_list n.now
 line_of (Make w c) = make w.now (wants c)
-line_of (Insert l c i w) = insert l c i (wants w)
-line_of (InsertKept l c i w) = insert_kept l c i w.now
+line_of (Insert s w) = insert s.list s.client s.index (wants w)
+line_of (InsertKept s w) = insert_kept s.list s.client s.index w.now
 line_of (Remove l i n) = remove l i n
 line_of (Cut i) = cut (id_of i)
 line_of (Links i) = links (id_of i)

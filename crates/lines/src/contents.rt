@@ -3,7 +3,7 @@ ghost use Rattle.std.specs.Option.{option_map};
 ghost use Rattle.lines.specs.Asked.{line_of};
 ghost use Rattle.lines.specs.Contents.{make_in, spot_in, kept_in, insert_in};
 
-use crate::line::Line;
+use crate::line::{Line, Spot};
 use crate::parts::{is_ended, read_front};
 use notation::words::next_word;
 use spelling::wanted::read_wanted;
@@ -20,14 +20,19 @@ pub(crate) fn read_make<'a>(heap: Global, rest: &'a [u8]) -> Result<Option<Line<
     Ok(Some(Line::Make(word, wanted)))
 }
 
-/// The list, the client and the index of an insertion, and what stands after them.
-fn read_spot<'a>(line: &'a [u8]) -> Option<(u64, u64, u64, &'a [u8])>
-    ensures { option_map (λ p. (p.0, p.1, p.2, p.3.now)) result ≡ spot_in line.now }
+/// Where a line inserts, and what stands after that.
+fn read_spot<'a>(line: &'a [u8]) -> Option<(Spot, &'a [u8])>
+    ensures { option_map (λ p. (p.0.list, p.0.client, p.0.index, p.1.now)) result ≡ spot_in line.now }
 {
     let (list, rest) = read_front(line)?;
     let (client, rest) = read_front(rest)?;
     let (index, rest) = read_front(rest)?;
-    Some((list, client, index, rest))
+    let spot = Spot {
+        list,
+        client,
+        index,
+    };
+    Some((spot, rest))
 }
 
 /// The word that a line `=WORD` names, and nothing more.
@@ -35,10 +40,9 @@ fn read_kept<'a>(line: &'a [u8]) -> Option<&'a [u8]>
     ensures { option_map (λ w. w.now) result ≡ kept_in line.now }
 {
     let (word, rest) = next_word(line);
-    if is_ended(rest) && 1 < word.len() {
-        Some(&word[1..])
-    } else {
-        None
+    match word {
+        [_, kept @ ..] if is_ended(rest) && !kept.is_empty() => Some(kept),
+        _ => None,
     }
 }
 
@@ -46,7 +50,7 @@ fn read_kept<'a>(line: &'a [u8]) -> Option<&'a [u8]>
 pub(crate) fn read_insert<'a>(heap: Global, rest: &'a [u8]) -> Result<Option<Line<'a>>, AllocError>
     ensures { IfOk result (λ o. option_map line_of o ≡ insert_in rest.now) }
 {
-    let Some((list, client, index, rest)) = read_spot(rest) else {
+    let Some((spot, rest)) = read_spot(rest) else {
         return Ok(None);
     };
     let (word, _) = next_word(rest);
@@ -54,10 +58,10 @@ pub(crate) fn read_insert<'a>(heap: Global, rest: &'a [u8]) -> Result<Option<Lin
         let Some(kept) = read_kept(rest) else {
             return Ok(None);
         };
-        return Ok(Some(Line::InsertKept(list, client, index, kept)));
+        return Ok(Some(Line::InsertKept(spot, kept)));
     }
     let Some(wanted) = read_wanted(heap, rest)? else {
         return Ok(None);
     };
-    Ok(Some(Line::Insert(list, client, index, wanted)))
+    Ok(Some(Line::Insert(spot, wanted)))
 }

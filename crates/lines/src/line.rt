@@ -11,6 +11,14 @@ use source::id::Id;
 use spelling::wanted::Wanted;
 use std::alloc::{AllocError, Global};
 
+/// Where a content is inserted: in which list, by which client and at which index.
+#[derive(Clone, Copy, PartialEq, Eq, Debug)]
+pub struct Spot {
+    pub list: u64,
+    pub client: u64,
+    pub index: u64,
+}
+
 /// What a line asks for. A list goes by its number.
 #[derive(Drop)]
 pub enum Line<'a> {
@@ -20,10 +28,10 @@ pub enum Line<'a> {
     Open(&'a [u8]),
     /// A content to be kept under a word.
     Make(&'a [u8], Wanted),
-    /// A content to be inserted: the list, the client and the index.
-    Insert(u64, u64, u64, Wanted),
+    /// A content to be inserted.
+    Insert(Spot, Wanted),
     /// The same of the content that is kept under a word.
-    InsertKept(u64, u64, u64, &'a [u8]),
+    InsertKept(Spot, &'a [u8]),
     /// A removal: the list, the index and how many units.
     Remove(u64, u64, u64),
     /// A cut at an id.

@@ -1,6 +1,4 @@
-use Rattle.std.proofs.Common.{◌++◌, vec_items, ap, ◌∙◌, arith}
-use Rattle.std.proofs.lemmas.List.{take_all}
-use Rattle.transcript.specs.Pieces.{units_text}
+use Rattle.std.proofs.Common.{arith}
 use Rattle.transcript.proofs.PieceLaws.{unit_told, units_more}
 use Rattle.transcript.proofs.pieces.push_units.Goals as goal
 
@@ -15,12 +13,3 @@ loop-k-preserved g c =
           c.in_ok-push_shown.ensures,
       c.loop-k.invariant.1,
     )
-
-pub returns : goal.returns
-returns g c =
-    let words = c.args.words.now in
-    let content = c.args.content.now in
-    let us = g.C.Content.units words content in
-    let sized = g.met.C.Content.sized words content c.loop-k.invariant.1 in
-    let len = c.len-k-end.ensures in
-    c.loop-k.invariant.0 ∙ ap (λ q. vec_items c.args.text.now ++ units_text q) (take_all c.loop-k.k us (omega arith))
