@@ -60,6 +60,7 @@ fn read_open<'a>(rest: &'a [u8]) -> &'a [u8]
 fn read_plain<'a>(name: &[u8], rest: &'a [u8]) -> Option<Line<'a>>
     ensures { option_map line_of result ≡ plain_in name.now rest.now }
 {
+    // An arm `b"open"` of a `match` gives a proof each byte and no equation of the words: such arms stayed open.
     if is_word(name, b"open") {
         Some(Line::Open(read_open(rest)))
     } else if is_word(name, b"document") {

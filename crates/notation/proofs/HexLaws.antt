@@ -49,16 +49,14 @@ hex_push : (xs : List ℕ) (b : ℕ) → hex_of (xs ++ b ∷ []) ≡ hex_of xs +
 hex_push [] b = refl
 hex_push (x ∷ xs) b = ap (λ q. digit_of (x / 16) ∷ digit_of (x % 16) ∷ q) (hex_push xs b)
 
--- Two digits pushed, one after the other.
-pub hex_more : (before was one two bs : List ℕ) (i x y : ℕ) → i < length bs → x ≡ digit_of (get_or bs i 0 / 16) → y ≡ digit_of (get_or bs i 0 % 16)
-    → was ≡ before ++ hex_of (take i bs) → one ≡ was ++ x ∷ [] → two ≡ one ++ y ∷ [] → two ≡ before ++ hex_of (take (i + 1) bs)
-hex_more before was one two bs i x y h a b e p q =
-    let u : ℕ = digit_of (get_or bs i 0 / 16) in
-    let v : ℕ = digit_of (get_or bs i 0 % 16) in
-    let m : hex_of (take (i + 1) bs) ≡ hex_of (take i bs) ++ (u ∷ v ∷ []) = ap hex_of (take_more bs i 0 h) ∙ hex_push (take i bs) (get_or bs i 0) in
-    q ∙ (ap (λ z. z ++ y ∷ []) p ∙ (append_assoc was (x ∷ []) (y ∷ [])
-    ∙ (ap (λ z. z ++ (x ∷ y ∷ [])) e ∙ (append_assoc before (hex_of (take i bs)) (x ∷ y ∷ [])
-    ∙ (ap (λ z. before ++ (hex_of (take i bs) ++ (z ∷ y ∷ []))) a ∙ (ap (λ z. before ++ (hex_of (take i bs) ++ (u ∷ z ∷ []))) b ∙ ap (λ z. before ++ z) (sym m)))))))
+-- Its two digits pushed.
+pub hex_more : (before was next bs : List ℕ) (i x y : ℕ) → i < length bs → x ≡ digit_of (get_or bs i 0 / 16) → y ≡ digit_of (get_or bs i 0 % 16)
+    → was ≡ before ++ hex_of (take i bs) → next ≡ was ++ (x ∷ y ∷ []) → next ≡ before ++ hex_of (take (i + 1) bs)
+hex_more before was next bs i x y h a b e p =
+    let more : hex_of (take (i + 1) bs) ≡ hex_of (take i bs) ++ (digit_of (get_or bs i 0 / 16) ∷ digit_of (get_or bs i 0 % 16) ∷ []) =
+    ap hex_of (take_more bs i 0 h) ∙ hex_push (take i bs) (get_or bs i 0) in
+    let told = append_assoc before (hex_of (take i bs)) (x ∷ y ∷ []) in
+    cc
 
 -- A word of an even number of bytes is hexadecimal where each byte is a digit, and no other word is.
 pub hex_even : (w : List ℕ) → length w % 2 ≡ 0 → list_all is_hex_digit w ≡ is_hex w

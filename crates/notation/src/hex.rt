@@ -54,9 +54,9 @@ fn hex_digit(n: u8) -> u8
 pub fn push_hex(text: &mut Vec<u8>, bytes: &[u8]) -> Result<(), AllocError>
     ensures { OnOk result (text.new.items ≡ text.old.items ++ hex_of bytes.now) }
 {
+    // `{byte:02X}` would make and let go a `String` for each byte.
     for byte in bytes {
-        text.push(hex_digit(*byte / 16))?;
-        text.push(hex_digit(*byte % 16))?;
+        text.extend_from_slice(&[hex_digit(*byte / 16), hex_digit(*byte % 16)])?;
     }
     Ok(())
 }

@@ -28,6 +28,7 @@ fn push_bytes(text: &mut Vec<u8>, bytes: &[u8]) -> Result<(), AllocError>
 fn push_record(text: &mut Vec<u8>, source: &LinkSource<'_>) -> Result<(), AllocError>
     ensures { OnOk result (text.new.items ≡ text.old.items ++ write_text (start_of source.now) (end_of source.now) (refused room_for 0 (start_of source.now) (end_of source.now))) }
 {
+    // The writer allocates nothing: it fills a buffer of its caller's.
     let mut buf = [0u8; 96];
     match encode_weak_link(source, &mut buf, 0) {
         Ok(n) => push_bytes(text, &buf[0..n]),

@@ -13,11 +13,15 @@ use replies::refusal::push_refusal;
 use spelling::wanted::Wanted;
 use std::alloc::AllocError;
 
+/// The refusal of an offset at which nothing can be cut.
+const UNCUT: u8 = 10;
+
 /// Appends the units of a content, a blank before each.
 fn push_units<C: Content>(text: &mut Vec<u8>, content: &C, words: &[u64]) -> Result<(), AllocError>
     requires { C.Content.reach content.now ≤ length words.now }
     ensures { OnOk result (text.new.items ≡ text.old.items ++ units_text (C.Content.units words.now content.now)) }
 {
+    // A content is no slice: it gives each unit by its place, out of the words.
     for k in 0..content.len() {
         let Some(unit) = content.unit(words, k) else {
             unreachable!();
@@ -46,7 +50,7 @@ fn push_halves<C: Content>(
     push_units(text, &rear, words)
 }
 
-/// Appends both pieces' units of a content in the used words; an offset at which it cannot be cut is refused 10.
+/// Appends both pieces' units of a content in the used words; an offset at which it cannot be cut is refused.
 fn push_cut<C: Content>(
     text: &mut Vec<u8>,
     content: &C,
@@ -59,7 +63,7 @@ fn push_cut<C: Content>(
     if 0 < offset && offset < u64::from(content.len()) {
         push_halves(text, content, offset as u32, words)
     } else {
-        push_refusal(text, 10)
+        push_refusal(text, UNCUT)
     }
 }
 
@@ -108,6 +112,7 @@ fn push_wanted(
 pub fn push_pieces(text: &mut Vec<u8>, offset: u64, wanted: &Wanted) -> Result<(), AllocError>
     ensures { OnOk result (text.new.items ≡ text.old.items ++ pieces_text (asked (wants wanted.now)) offset) }
 {
+    // A content is made in a table that its caller lends, since making allocates nothing.
     let mut table = vec![in *text.allocator(); 0u64; 65_536]?;
     push_wanted(text, offset, wanted, table.as_mut_slice())
 }
