@@ -1,8 +1,6 @@
-use Rattle.std.proofs.Common.{◌≡◌, ◌≤◌, ◌++◌, length, take, vec_items}
+use Rattle.std.proofs.Common.{◌≡◌, ◌++◌, take, vec_items}
 use Rattle.transcript.specs.Pieces.{units_text}
 use Rattle.transcript.proofs.pieces.push_units.Given as goal
 
 abbrev pub invariant-loop-k : goal.invariant-loop-k
-invariant-loop-k g l =
-    (vec_items l.text ≡ vec_items l.initial.text ++ units_text (take l.k (g.C.Content.units l.words l.content)))
-    × (g.C.Content.reach l.content ≤ length l.words)
+invariant-loop-k g l = vec_items l.text ≡ vec_items l.initial.text ++ units_text (take l.k (g.C.Content.units l.words l.content))
