@@ -1,6 +1,6 @@
 use Rattle.std.proofs.Common.{◌≡◌, ℕ, ◌+◌, ◌/◌, ◌%◌, ◌^◌, Bool, cond, List, [], ◌∷◌, ◌++◌, decimal, filter, sym, refl, ap, ◌∙◌, arith}
 use Rattle.std.specs.List.{range_with_len}
-use Rattle.std.proofs.lemmas.List.{append-nil, append_assoc, flat_map_more, map-id}
+use Rattle.std.proofs.lemmas.List.{append-nil, flat_map_more, map-id}
 use Rattle.std.proofs.lemmas.Bool.{eq-eqb, ne_eqb, cond-true, cond-false}
 use Rattle.std.proofs.lemmas.List.FromFn.{filter_of_map_range_with_len_more}
 use Rattle.law.specs.Faces.{bit}
@@ -30,17 +30,13 @@ separator_push [] n = refl
 separator_push (m ∷ ms) n = refl
 
 -- A link that is in the set, and one that is not.
-pub set_more : (before was mid next separator : List ℕ) (n links : ℕ) → links / 2 ^ n % 2 ≡ 1 → separator ≡ separator_after (links_below n links)
-    → was ≡ before ++ listed (links_below n links) → mid ≡ was ++ separator → next ≡ mid ++ decimal n
-    → (next ≡ before ++ listed (links_below (n + 1) links)) × (0x2C ∷ [] ≡ separator_after (links_below (n + 1) links))
+pub set_more : (n links : ℕ) (separator : List ℕ) → links / 2 ^ n % 2 ≡ 1 → separator ≡ separator_after (links_below n links)
+    → (listed (links_below n links) ++ (separator ++ decimal n) ≡ listed (links_below (n + 1) links)) × (0x2C ∷ [] ≡ separator_after (links_below (n + 1) links))
 unfolding bit
-set_more before was mid next separator n links b f e m p =
+set_more n links separator b f =
     let ns : List ℕ = links_below n links in
     let more : links_below (n + 1) links ≡ ns ++ n ∷ [] = links_more n links ∙ ap (λ q. ns ++ q) (cond-true (bit n links) (n ∷ []) [] (eq-eqb (links / 2 ^ n % 2) 1 b)) in (
-      p ∙ (ap (λ q. q ++ decimal n) m ∙ append_assoc was separator (decimal n))
-          ∙ (ap (λ q. q ++ (separator ++ decimal n)) e
-          ∙ (ap (λ q. (before ++ listed ns) ++ (q ++ decimal n)) f
-          ∙ (append_assoc before (listed ns) (separator_after ns ++ decimal n) ∙ ap (λ q. before ++ q) (sym (listed_push ns n) ∙ ap listed (sym more))))),
+      ap (λ q. listed ns ++ (q ++ decimal n)) f ∙ (sym (listed_push ns n) ∙ ap listed (sym more)),
       separator_push ns n ∙ ap separator_after (sym more),
     )
 

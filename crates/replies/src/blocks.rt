@@ -3,7 +3,7 @@ ghost use Rattle.std.specs.Option.{option_map};
 ghost use Rattle.source.specs.Meaning.{id_of};
 ghost use Rattle.replies.specs.Blocks.{mark_text, block_text, anchor_text, origin_text};
 
-use crate::link_set::push_set;
+use crate::link_set::LinkSet;
 use notation::text::push_shown;
 use source::id::Id;
 use std::alloc::AllocError;
@@ -27,8 +27,8 @@ pub fn push_block(
     ensures { OnOk result (text.new.items ≡ text.old.items ++ block_text (id_of first) len removed links) }
 {
     let mark = mark_of(removed);
-    push_shown(text, &format_args!(" {first}+{len}{mark}"))?;
-    push_set(text, links)
+    let links = LinkSet(links);
+    push_shown(text, &format_args!(" {first}+{len}{mark}{links}"))
 }
 
 /// An origin: its id, or a dot where there is none.
