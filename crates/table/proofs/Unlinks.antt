@@ -1,7 +1,8 @@
 -- A link taken out of the sets of the first records.
-use Rattle.std.proofs.Common.{◌≡◌, ℕ, zero, suc, ◌+◌, ◌-◌, ◌*◌, ◌%◌, ◌^◌, ◌<◌, List, [], ◌∷◌, ◌++◌, map, length, get_or, take, drop, set, Some, None, Option, sym, refl, ap, ◌∙◌, subst, arith}
+use Rattle.std.proofs.Common.{◌≡◌, ℕ, zero, suc, ◌+◌, ◌-◌, ◌*◌, ◌%◌, ◌^◌, ◌<◌, ◌≤◌, List, [], ◌∷◌, ◌++◌, map, length, get_or, take, drop, set, Some, None, Option, sym, refl, ap, ◌∙◌, subst, ap₂, arith}
 use lib.Bits.{bit_and}
 use Rattle.std.proofs.lemmas.Nat.{one_shl}
+use Rattle.std.proofs.lemmas.List.{append-nil, take_all, drop_all}
 use Rattle.std.proofs.lemmas.List.Edits.{map_over_more}
 use Rattle.std.specs.List.{AllByRecursion}
 use Rattle.table.specs.declared.block.Block.{Block}
@@ -27,10 +28,10 @@ get_or_through f (y ∷ t) (suc k) (suc i) x lt = get_or_through f t k i x (omeg
 
 module _ {C : Type 0} where
   pub clear_more : (n : ℕ) (t u : List (Block C)) (i : ℕ) (b : Block C) → n < 64 → i < length t → u ≡ map (cleared n) (take i t) ++ drop i t → b ≡ get_or u i b
-      → set u i (masked ((1 * 2 ^ n) % 2 ^ 64) b) ≡ map (cleared n) (take (i + 1) t) ++ drop (i + 1) t
+      → set u i (masked ((1 * 2 ^ n) % 2 ^ 64) (get_or u i b)) ≡ map (cleared n) (take (i + 1) t) ++ drop (i + 1) t
   clear_more n t u i b small lt inv read =
-      subst (λ w. set u i (masked w b) ≡ map (cleared n) (take (i + 1) t) ++ drop (i + 1) t) (sym (one_shl n 64 small))
-      (map_over_more (cleared n) t u i b lt inv read)
+      subst (λ w. set u i (masked w (get_or u i b)) ≡ map (cleared n) (take (i + 1) t) ++ drop (i + 1) t) (sym (one_shl n 64 small))
+      (map_over_more (cleared n) t u i (get_or u i b) lt inv (ap (get_or u i) read))
 
   front_through : (n : ℕ) (cs : List (Cell C)) → front (map (cleared_cell n) cs) ≡ front cs
   front_through n [] = refl
@@ -57,5 +58,8 @@ module _ {C : Type 0} where
       now_cells = λ l start w low. cells_of u l None start _ (path_through l None (cells t start) w.path low) (front_through n (cells t start) ∙ w.starts);
     }
 
-  pub clear_done : (n : ℕ) (t : List (Block C)) (k i : ℕ) (u : List (Block C)) → i ≡ k → u ≡ map (cleared n) (take i t) ++ drop i t → Cleared t k n u
-  clear_done n t k i u e is = clear_all n t k u (subst (λ m. u ≡ map (cleared n) (take m t) ++ drop m t) e is)
+  pub clear_done : (n : ℕ) (t : List (Block C)) (k i : ℕ) (xs : List (Block C)) → length (take k t) ≤ i → xs ≡ map (cleared n) (take i (take k t)) ++ drop i (take k t)
+      → Cleared t k n (xs ++ drop k t)
+  clear_done n t k i xs past is =
+      clear_all n t k (xs ++ drop k t)
+      (ap (λ ys. ys ++ drop k t) (is ∙ ap₂ (λ ys zs. map (cleared n) ys ++ zs) (take_all i (take k t) past) (drop_all i (take k t) past) ∙ append-nil (map (cleared n) (take k t))))

@@ -1,21 +1,13 @@
--- A walk along a list, from block to block.
-use Rattle.std.proofs.Common.{◌≡◌, ℕ, suc, ◌+◌, ◌<◌, true, false, List, [], ◌∷◌, ◌++◌, length, get_or, Some, None, Option, sym, refl, ap, ◌∙◌, subst, append_assoc, arith}
+-- What is left of a list, block by block.
+use Rattle.std.proofs.Common.{◌≡◌, ℕ, ◌+◌, ◌<◌, Bool, true, false, cond, List, [], ◌∷◌, ◌++◌, length, get_or, Some, None, Option, sym, refl, ap, ◌∙◌, subst, ap₂, append_assoc, arith}
 use Rattle.std.proofs.lemmas.List.{append-nil}
 use Rattle.content.specs.declared.content.Content.{Ghosts}
 use Rattle.table.specs.declared.block.Block.{Block}
-use Rattle.table.specs.Cells.{Face, Cell, cell, block, face_of, front, last, Path, cells, Stands}
-use Rattle.table.specs.Lookups.{Listed, shown, visible}
-use Rattle.table.proofs.Paths.{none_some, some_some, holds_unique, seg_back}
+use Rattle.table.specs.Cells.{Face, Cell, cell, block, face_of, front, Path, cells}
+use Rattle.table.specs.Lookups.{shown, visible}
+use Rattle.table.specs.Walks.{Leads}
+use Rattle.table.proofs.Paths.{none_some, some_some, holds_unique}
 use Rattle.table.proofs.Computed.{cells_of}
-
--- How far a walk has come: over the cells pre, with the cells post still to come.
-pub record Walk {C : Type 0} (t : List (Block C)) (start cur : Option ℕ) : Type 0 where
-  pub list : ℕ
-  pub pre : List (Cell C)
-  pub post : List (Cell C)
-  pub stands : Stands t list start
-  pub parts : cells t start ≡ pre ++ post
-  pub at_hand : front post ≡ cur
 
 -- The cells xs begin at i.
 pub record Opened {C : Type 0} (i : ℕ) (xs : List (Cell C)) : Type 0 where
@@ -31,58 +23,64 @@ no_cells : {C : Type 0} (xs : List (Cell C)) → front xs ≡ None → xs ≡ []
 no_cells [] e = refl
 no_cells (x ∷ xs) e = absurd (none_some x.at (sym e))
 
-module _ {C : Type 0} {t : List (Block C)} {start : Option ℕ} where
-  abbrev pub walk_start : Listed t start → Walk t start start
-  walk_start v = record { list = v.list; pre = []; post = cells t start; stands = v.stands; parts = refl; at_hand = v.stands.starts }
+module _ {C : Type 0} {t : List (Block C)} {next : Option ℕ} (w : Leads t next) where
+  pub leads_end : next ≡ None → cells t next ≡ []
+  leads_end e = no_cells (cells t next) (w.starts ∙ e)
 
-  module _ {cur : Option ℕ} (w : Walk t start cur) where
-    pub walk_end : cur ≡ None → cells t start ≡ w.pre
-    walk_end e = w.parts ∙ ap (λ xs. w.pre ++ xs) (no_cells w.post (w.at_hand ∙ e)) ∙ append-nil w.pre
+  module _ {i : ℕ} (e : next ≡ Some i) where
+    turn : Opened i (cells t next)
+    turn = opened i (cells t next) (w.starts ∙ e)
 
-    post_path : Path t w.list (last None w.pre) w.post
-    post_path = seg_back t w.list None w.pre w.post None (subst (λ xs. Path t w.list None xs) w.parts w.stands.path)
+    here : Path t w.list w.before (cell i turn.face ∷ turn.rest)
+    here = subst (λ xs. Path t w.list w.before xs) turn.parts w.path
 
-    post_is : cells t cur ≡ w.post
-    post_is = cells_of t w.list (last None w.pre) cur w.post post_path w.at_hand
+    pub leads_within : i < length t
+    leads_within = here.0.within
 
-    module _ {i : ℕ} (e : cur ≡ Some i) where
-      turn : Opened i w.post
-      turn = opened i w.post (w.at_hand ∙ e)
+    module _ {b : Block C} (read : b ≡ get_or t i b) where
+      b_is : b ≡ block w.list w.before (front turn.rest) turn.face
+      b_is = holds_unique t i b _ (record { within = leads_within; is = read }) here.0
 
-      turn_here : Path t w.list (last None w.pre) (cell i turn.face ∷ turn.rest)
-      turn_here = subst (λ xs. Path t w.list (last None w.pre) xs) turn.parts post_path
+      at_hand : front turn.rest ≡ b.right
+      at_hand = ap (λ (y : Block C). y.right) (sym b_is)
 
-      pub walk_within : i < length t
-      walk_within = turn_here.0.within
+      rest_is : cells t b.right ≡ turn.rest
+      rest_is = cells_of t w.list (Some i) b.right turn.rest here.1 at_hand
 
-      pub walk_rest : List (Cell C)
-      walk_rest = turn.rest
+      pub leads_parts : cells t next ≡ cell i (face_of b) ∷ cells t b.right
+      leads_parts = turn.parts ∙ ap₂ (λ f xs. cell i f ∷ xs) (ap face_of (sym b_is)) (sym rest_is)
 
-      module _ {b : Block C} (read : b ≡ get_or t i b) where
-        b_is : b ≡ block w.list (last None w.pre) (front turn.rest) turn.face
-        b_is = holds_unique t i b _ (record { within = walk_within; is = read }) turn_here.0
+      pub leads_on : Leads t b.right
+      leads_on = record {
+        list = w.list;
+        before = Some i;
+        path = subst (λ xs. Path t w.list (Some i) xs) (sym rest_is) here.1;
+        starts = ap front rest_is ∙ at_hand;
+      }
 
-        pub walk_parts : cells t start ≡ w.pre ++ cell i (face_of b) ∷ walk_rest
-        unfolding walk_rest
-        walk_parts = w.parts ∙ ap (λ xs. w.pre ++ xs) turn.parts ∙ ap (λ (y : Block C). w.pre ++ cell i (face_of y) ∷ turn.rest) (sym b_is)
+-- How far a walk along the cells cs has come: over the cells pre, with the cells rest still to come.
+pub record Passed {C : Type 0} (cs rest : List (Cell C)) : Type 0 where
+  pub pre : List (Cell C)
+  pub parts : cs ≡ pre ++ rest
 
-        pub next_parts : cells t start ≡ (w.pre ++ cell i (face_of b) ∷ []) ++ walk_rest
-        next_parts = walk_parts ∙ sym (append_assoc w.pre (cell i (face_of b) ∷ []) walk_rest)
+module _ {C : Type 0} {cs rest : List (Cell C)} where
+  abbrev pub passed_none : rest ≡ cs → Passed cs rest
+  passed_none e = record { pre = []; parts = sym e }
 
-        pub next_at_hand : front walk_rest ≡ b.right
-        unfolding walk_rest
-        next_at_hand = ap (λ (y : Block C). y.right) (sym b_is)
+  pub passed_all : (p : Passed cs rest) → rest ≡ [] → cs ≡ p.pre
+  passed_all p e = p.parts ∙ ap (λ xs. p.pre ++ xs) e ∙ append-nil p.pre
 
-        abbrev pub walk_next : Walk t start b.right
-        walk_next = record { list = w.list; pre = w.pre ++ cell i (face_of b) ∷ []; post = walk_rest; stands = w.stands; parts = next_parts; at_hand = next_at_hand }
+  module _ (p : Passed cs rest) {c : Cell C} {more : List (Cell C)} (e : rest ≡ c ∷ more) where
+    pub passed_parts : cs ≡ p.pre ++ c ∷ more
+    passed_parts = p.parts ∙ ap (λ xs. p.pre ++ xs) e
 
-        pub walk_falls : length (cells t b.right) < length (cells t cur)
-        unfolding walk_rest
-        walk_falls =
-            let here : length (cells t cur) ≡ length w.post = ap length post_is in
-            let more : length w.post ≡ suc (length turn.rest) = ap length turn.parts in
-            let next : length (cells t b.right) ≡ length turn.rest = ap length (cells_of t w.list (Some i) b.right turn.rest turn_here.1 next_at_hand) in
-            omega arith
+    abbrev pub passed_more : Passed cs more
+    passed_more = record { pre = p.pre ++ c ∷ []; parts = passed_parts ∙ sym (append_assoc p.pre (c ∷ []) more) }
+
+seen : (r c : Bool) (n : ℕ) → 0 < cond r 0 (cond c n 0) → (r ≡ false) × (c ≡ true) × (cond r 0 (cond c n 0) ≡ n)
+seen true c n lt = absurd (omega arith)
+seen false true n lt = (refl, refl, refl)
+seen false false n lt = absurd (omega arith)
 
 module _ {C : Type 0} (K : Ghosts C) where
   pub visible_more : (xs : List (Cell C)) (i : ℕ) (f : Face C) → visible K (xs ++ cell i f ∷ []) ≡ visible K xs + shown K f
@@ -92,8 +90,6 @@ module _ {C : Type 0} (K : Ghosts C) where
   pub shown_all : (f : Face C) → f.removed ≡ false → K.counts f.content ≡ true → shown K f ≡ K.size f.content
   shown_all f r c = rw (r, c)
 
-  pub shown_removed : (f : Face C) → f.removed ≡ true → shown K f ≡ 0
-  shown_removed f r = rw r
-
-  pub shown_hidden : (f : Face C) → f.removed ≡ false → K.counts f.content ≡ false → shown K f ≡ 0
-  shown_hidden f r c = rw (r, c)
+  -- A face that has visible units shows all of them.
+  pub shown_some : (f : Face C) → 0 < shown K f → (f.removed ≡ false) × (K.counts f.content ≡ true) × (shown K f ≡ K.size f.content)
+  shown_some f = seen f.removed (K.counts f.content) (K.size f.content)

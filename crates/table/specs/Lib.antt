@@ -4,3 +4,4 @@ pub mod Puts
 pub mod Lookups
 pub mod Clears
 pub mod Gaps
+pub mod Walks

@@ -19,6 +19,11 @@ pub record Has {C : Type 0} (K : Ghosts C) (id : Id) (f : Face C) (o : ℕ) : Ty
   pub clock : f.id.clock + o ≡ id.clock
   pub inside : o < K.size f.content
 
+-- At which offset the face has the id, if it does.
+abbrev pub HasAt : {C : Type 0} → Ghosts C → Id → Face C → Option ℕ → Type 0
+HasAt K id f None = (o : ℕ) → Has K id f o → ⊥
+HasAt K id f (Some o) = Has K id f o
+
 -- The id is that of no unit of the cells.
 abbrev pub Lacks : {C : Type 0} → Ghosts C → Id → List (Cell C) → Type 0
 Lacks K id cs = AllByRecursion (λ c. (o : ℕ) → Has K id c.face o → ⊥) cs

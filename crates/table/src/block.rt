@@ -1,6 +1,9 @@
-ghost use Rattle.std.specs.Prelude.{◌≡◌};
-ghost use Rattle.table.specs.Cells.{unused};
+ghost use Rattle.std.specs.Prelude.{◌≡◌, ◌+◌, ◌^◌, ◌<◌};
+ghost use Rattle.table.specs.Cells.{unused, face_of};
+ghost use Rattle.table.specs.Cuts.{later};
+ghost use Rattle.table.specs.Lookups.{shown, HasAt};
 
+use content::content::Content;
 use source::id::Id;
 
 /// A record of the table: a run of ids of one client, with the content that holds one unit for each of them.
@@ -45,5 +48,37 @@ impl<C> Block<C> {
             links: 0,
             content,
         }
+    }
+}
+
+impl<C: Content> Block<C> {
+    /// How many visible units it has: none if it is removed or its content does not count.
+    pub fn shown(&self) -> u32
+        ensures { result ≡ shown C.Content (face_of self.now) }
+    {
+        if self.removed || !self.content.countable() {
+            0
+        } else {
+            self.content.len()
+        }
+    }
+
+    // The id of the unit at an offset.
+    pub(crate) fn id_at(&self, offset: u32) -> Id
+        requires { self.now.id.clock + offset < 2 ^ 32 }
+        ensures { result ≡ later self.now.id offset }
+    {
+        Id {
+            clock: self.id.clock + offset,
+            ..self.id
+        }
+    }
+
+    // The offset of the unit that has an id; nothing if none of its units has it.
+    pub(crate) fn offset_of(&self, id: Id) -> Option<u32>
+        ensures { HasAt C.Content id (face_of self.now) result }
+    {
+        let offset = id.clock.checked_sub(self.id.clock)?;
+        (id.client == self.id.client && offset < self.content.len()).then_some(offset)
     }
 }

@@ -44,12 +44,8 @@ pub fn left_edge<C: Content>(
         },
         Some(i) => {
             let b = blocks[i];
-            let n = b.content.len();
             LeftEdge {
-                last: Some(Id {
-                    client: b.id.client,
-                    clock: b.id.clock + (n - 1),
-                }),
+                last: Some(b.id_at(b.content.len() - 1)),
                 links: b.links,
                 right: b.right,
             }

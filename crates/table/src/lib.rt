@@ -6,3 +6,4 @@ pub mod gap;
 pub mod link_set;
 pub mod lookup;
 pub mod splice;
+mod walk;

@@ -11,11 +11,7 @@ pub fn clear_link<C: Content>(blocks: &mut [Block<C>], used: usize, n: u32)
     requires number { n < 64 }
     ensures { Cleared blocks.old used n blocks.new }
 {
-    for i in 0..used {
-        let b = blocks[i];
-        blocks[i] = Block {
-            links: b.links & !(1u64 << n),
-            ..b
-        };
+    for b in &mut blocks[..used] {
+        b.links &= !(1u64 << n);
     }
 }

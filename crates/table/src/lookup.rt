@@ -3,6 +3,7 @@ ghost use Rattle.table.specs.Cells.{cells};
 ghost use Rattle.table.specs.Lookups.{Listed, Found, Sought};
 
 use crate::block::Block;
+use crate::walk::Walk;
 use content::content::Content;
 use source::id::Id;
 
@@ -22,16 +23,10 @@ pub fn find<C: Content>(blocks: &[Block<C>], start: Option<usize>, id: Id) -> Op
     requires { Listed blocks.now start }
     ensures { Found C.Content id (cells blocks.now start) result }
 {
-    let mut cur = start;
-    while let Some(i) = cur {
-        let b = blocks[i];
-        if b.id.client == id.client
-            && b.id.clock <= id.clock
-            && id.clock - b.id.clock < b.content.len()
-        {
-            return Some((i, id.clock - b.id.clock));
+    for (i, b) in Walk::new(blocks, start) {
+        if let Some(offset) = b.offset_of(id) {
+            return Some((i, offset));
         }
-        cur = b.right;
     }
     None
 }
@@ -45,17 +40,12 @@ pub fn seek<C: Content>(blocks: &[Block<C>], start: Option<usize>, index: u32) -
         return Place::Front;
     }
     let mut left = index;
-    let mut cur = start;
-    while let Some(i) = cur {
-        let b = blocks[i];
-        if !b.removed && b.content.countable() {
-            let n = b.content.len();
-            if left <= n {
-                return Place::After(i, left);
-            }
-            left -= n;
+    for (i, b) in Walk::new(blocks, start) {
+        let n = b.shown();
+        if left <= n {
+            return Place::After(i, left);
         }
-        cur = b.right;
+        left -= n;
     }
     Place::Past
 }

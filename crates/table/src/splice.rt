@@ -5,7 +5,6 @@ ghost use Rattle.table.specs.Puts.{Within, Relinks, Spliceable, Put};
 
 use crate::block::Block;
 use content::content::Content;
-use source::id::Id;
 
 // Tells the block at `n`, if any, that `p` stands before it.
 fn relink<C: Content>(blocks: &mut [Block<C>], n: Option<usize>, p: usize)
@@ -13,11 +12,7 @@ fn relink<C: Content>(blocks: &mut [Block<C>], n: Option<usize>, p: usize)
     ensures { Relinks blocks.old n p blocks.new }
 {
     if let Some(n) = n {
-        let next = blocks[n];
-        blocks[n] = Block {
-            left: Some(p),
-            ..next
-        };
+        blocks[n].left = Some(p);
     }
 }
 
@@ -30,15 +25,9 @@ pub fn split<C: Content>(blocks: &mut [Block<C>], i: usize, k: u32, j: usize)
     let b = blocks[i];
     let (fore, rear) = b.content.cut(k);
     blocks[j] = Block {
-        id: Id {
-            client: b.id.client,
-            clock: b.id.clock + k,
-        },
+        id: b.id_at(k),
         left: Some(i),
-        origin: Some(Id {
-            client: b.id.client,
-            clock: b.id.clock + (k - 1),
-        }),
+        origin: Some(b.id_at(k - 1)),
         content: rear,
         ..b
     };

@@ -1,16 +1,16 @@
-use Rattle.std.proofs.Common.{◌<◌, length, length-set, rules}
+use Rattle.std.proofs.Common.{length-set, rules}
 use Rattle.table.proofs.Afters.{within_all}
 use Rattle.table.proofs.Splices as S
 use Rattle.table.proofs.splice.splice_in.Goals as goal
 
 pub offset_bounds-blocks-i : goal.offset_bounds-blocks-i
-offset_bounds-blocks-i g c = let lt : c.in-Some.i < length c.args.blocks.now = S.i_within c.requires c.in-Some.is in search rules
+offset_bounds-blocks-i g c = let lt = S.i_within c.requires c.in-Some.is in search rules
 
 pub bounds-blocks-i : goal.bounds-blocks-i
 bounds-blocks-i g c = S.i_within c.requires c.in-Some.is
 
 pub offset_bounds-blocks-i-in-Some : goal.offset_bounds-blocks-i-in-Some
-offset_bounds-blocks-i-in-Some g c = let lt : c.in-Some.i < length c.args.blocks.now = S.i_within c.requires c.in-Some.is in search rules
+offset_bounds-blocks-i-in-Some g c = let lt = S.i_within c.requires c.in-Some.is in search rules
 
 pub bounds-blocks-i-in-Some : goal.bounds-blocks-i-in-Some
 bounds-blocks-i-in-Some g c = simp length-set (S.i_within c.requires c.in-Some.is)

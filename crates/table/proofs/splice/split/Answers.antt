@@ -1,10 +1,10 @@
-use Rattle.std.proofs.Common.{◌+◌, ◌^◌, ◌<◌, length, length-set, rules}
+use Rattle.std.proofs.Common.{length-set, arith, rules}
 use Rattle.table.proofs.Afters.{within_all}
 use Rattle.table.proofs.Splits as S
 use Rattle.table.proofs.splice.split.Goals as goal
 
 pub offset_bounds-blocks-i : goal.offset_bounds-blocks-i
-offset_bounds-blocks-i g c = let lt : c.args.i < length c.args.blocks.now = S.i_within c.requires in search rules
+offset_bounds-blocks-i g c = let lt = S.i_within c.requires in search rules
 
 pub bounds-blocks-i : goal.bounds-blocks-i
 bounds-blocks-i g c = S.i_within c.requires
@@ -12,14 +12,14 @@ bounds-blocks-i g c = S.i_within c.requires
 pub cut-fore-requires : goal.cut-fore-requires
 cut-fore-requires g c = record { positive = c.requires.some_left; below = S.below c.requires c.index-blocks-i.is }
 
-pub overflow_add-blocks : goal.overflow_add-blocks
-overflow_add-blocks g c = let lt : c.index-blocks-i.result.id.clock + c.args.k < 2 ^ 32 = S.clocked c.requires c.index-blocks-i.is in search rules
+pub id_at-requires : goal.id_at-requires
+id_at-requires g c = S.clocked c.requires c.index-blocks-i.is
 
-pub overflow_add-blocks-2 : goal.overflow_add-blocks-2
-overflow_add-blocks-2 g c = let lt : c.index-blocks-i.result.id.clock + c.args.k < 2 ^ 32 = S.clocked c.requires c.index-blocks-i.is in search rules
+pub id_at-requires-2 : goal.id_at-requires-2
+id_at-requires-2 g c = omega (arith, S.clocked c.requires c.index-blocks-i.is)
 
 pub offset_bounds-blocks-i-2 : goal.offset_bounds-blocks-i-2
-offset_bounds-blocks-i-2 g c = let lt : c.args.i < length c.args.blocks.now = S.i_within c.requires in search rules
+offset_bounds-blocks-i-2 g c = let lt = S.i_within c.requires in search rules
 
 pub bounds-blocks-i-2 : goal.bounds-blocks-i-2
 bounds-blocks-i-2 g c = simp length-set (S.i_within c.requires)
@@ -28,4 +28,4 @@ pub relink-requires : goal.relink-requires
 relink-requires g c = within_all c.args.blocks.now _ c.index-blocks-i.result.right (simp length-set) (S.next-within c.requires c.index-blocks-i.is)
 
 pub returns : goal.returns
-returns g c = λ w. S.cut w c.index-blocks-i.is c.cut-fore.ensures.first c.cut-fore.ensures.others c.relink.ensures
+returns g c = λ w. S.cut w c.index-blocks-i.is c.cut-fore.ensures.first c.cut-fore.ensures.others (rw (c.id_at.ensures, c.id_at-2.ensures) at c.relink.ensures)
