@@ -1,16 +1,15 @@
 -- What the walk of strike does to a list.
 use Rattle.std.proofs.Common.{◌≡◌, ℕ, ◌+◌, ◌-◌, ◌<◌, ◌≤◌, Bool, true, false, cond, not, ◌&&◌, List, [], ◌∷◌, ◌++◌, map, length, get_or, set, Some, None, Option, sym, refl, ap, ◌∙◌, subst, ap₂, arith}
 use lib.Bits.{bit_or, or_zero_r}
-use Rattle.std.proofs.lemmas.Bool.{true≢false}
 use Rattle.std.specs.List.{AllByRecursion}
 use Rattle.content.specs.declared.content.Content.{Ghosts}
 use Rattle.table.specs.declared.block.Block.{Block}
 use Rattle.table.specs.Cells.{Face, Cell, cell, block, face_of, front, cells}
 use Rattle.table.specs.Lookups.{shown, visible}
 use Rattle.table.proofs.Paths.{none_some, all_front, all_back}
-use Rattle.table.proofs.Walks.{Opened, opened, shown_all}
+use Rattle.table.proofs.Walks.{Opened, opened, shown_some}
 use Rattle.marking.specs.Strikes.{struck, struck_cell, in_sight, union, Strikable, Struck}
-use Rattle.marking.proofs.Marks.{Marking, marking_start, marking_within, marking_falls, marking_face, marking_write, marking_keep, marking_stands, marking_cells, marking_others}
+use Rattle.marking.proofs.Marks.{Marking, marking_start, marking_within, marking_falls, marking_face, marking_write, marking_stands, marking_cells, marking_others}
 use Rattle.marking.proofs.Unions.{or_assoc}
 
 -- What the code writes.
@@ -18,17 +17,11 @@ abbrev gone : {C : Type 0} → Block C → Block C
 gone b = record { id = b.id; list = b.list; left = b.left; right = b.right; origin = b.origin; right_origin = b.right_origin; removed = true; links = b.links; content = b.content }
 
 -- A face of no visible unit stays as it is.
-
 out_of_sight : (removed counts : Bool) (n : ℕ) → 0 < n → cond removed 0 (cond counts n 0) ≡ 0 → (counts && not removed) ≡ false
 out_of_sight true true n lt e = refl
 out_of_sight true false n lt e = refl
 out_of_sight false true n lt e = absurd (omega arith)
 out_of_sight false false n lt e = refl
-
-none-shown : (removed counts : Bool) (n : ℕ) → (counts && not removed) ≡ false → cond removed 0 (cond counts n 0) ≡ 0
-none-shown true counts n e = refl
-none-shown false true n e = absurd (true≢false e)
-none-shown false false n e = refl
 
 mark_same : (counts removed : Bool) → (counts && not removed) ≡ false → cond counts true removed ≡ removed
 mark_same true true e = refl
@@ -38,9 +31,6 @@ mark_same false removed e = refl
 module _ {C : Type 0} (K : Ghosts C) where
   struck_same : (f : Face C) → in_sight K f ≡ false → struck K f ≡ f
   struck_same f e = ap (λ (r : Bool). record { id = f.id; origin = f.origin; right_origin = f.right_origin; removed = r; links = f.links; content = f.content }) (mark_same (K.counts f.content) f.removed e)
-
-  hidden_shown : (f : Face C) → in_sight K f ≡ false → shown K f ≡ 0
-  hidden_shown f = none-shown f.removed (K.counts f.content) (K.size f.content)
 
   unseen : (f : Face C) → 0 < K.size f.content → shown K f ≡ 0 → in_sight K f ≡ false
   unseen f = out_of_sight f.removed (K.counts f.content) (K.size f.content)
@@ -109,24 +99,24 @@ module _ {C : Type 0} {K : Ghosts C} {t : List (Block C)} {from : Option ℕ} {n
             ap (λ (f : Face C). bit_or links (union K (cell i f ∷ next.rest))) (marking_face s.walk next read)
             ∙ sym (ap (λ (xs : List (Cell C)). bit_or links (union K xs)) next.parts) ∙ s.joins
 
+        pub strike_enough : shown K (face_of b) ≤ left
+        strike_enough = let e = owed in omega arith
+
         -- A visible block.
-        module _ (stays : b.removed ≡ false) (counted : K.counts b.content ≡ true) where
+        module _ (some_seen : 0 < shown K (face_of b)) where
+          flags : (b.removed ≡ false) × (K.counts b.content ≡ true) × (shown K (face_of b) ≡ K.size b.content)
+          flags = shown_some K (face_of b) some_seen
+
           seen : in_sight K (face_of b) ≡ true
-          seen = rw (stays, counted)
-
-          size_is : K.size b.content + visible K next.rest ≡ left
-          size_is = sym (ap (λ k. k + visible K next.rest) (shown_all K (face_of b) stays counted)) ∙ owed
-
-          pub strike_enough : K.size b.content ≤ left
-          strike_enough = let e = size_is in omega arith
+          seen = rw (flags.0, flags.1)
 
           gone_is : gone b ≡ block b.list b.left b.right (struck K (face_of b))
-          gone_is = rw counted
+          gone_is = rw flags.1
 
-          pub strike-mark : (k : ℕ) → k ≡ K.size b.content → Striking K t from n w (set u i (gone b)) b.right (left - k) (bit_or links b.links)
+          pub strike-mark : (k : ℕ) → k ≡ shown K (face_of b) → Striking K t from n w (set u i (gone b)) b.right (left - k) (bit_or links b.links)
           strike-mark k is = record {
             walk = marking_write s.walk next read gone_is;
-            owed = let e = size_is in omega arith;
+            owed = let e = owed in omega arith;
             joins = or_assoc links b.links (union K next.rest)
                 ∙ ap (λ (test : Bool). bit_or links (cond test (bit_or b.links (union K next.rest)) (union K next.rest))) (sym seen) ∙ joins;
           }
@@ -135,16 +125,24 @@ module _ {C : Type 0} {K : Ghosts C} {t : List (Block C)} {from : Option ℕ} {n
           strike_mark_falls = marking_falls s.walk next (marking_write s.walk next read gone_is) refl
 
         -- A block that has no visible unit.
-        module _ (none : in_sight K (face_of b) ≡ false) where
-          face_same : struck K next.face ≡ next.face
-          face_same = struck_same K next.face (ap (in_sight K) (sym (marking_face s.walk next read)) ∙ none)
+        module _ (none_seen : shown K (face_of b) ≡ 0) where
+          some_unit : 0 < K.size b.content
+          some_unit =
+              subst (λ (f : Face C). 0 < K.size f.content) (sym (marking_face s.walk next read))
+              (subst (λ (xs : List (Cell C)). AllByRecursion (λ c. 0 < K.size c.face.content) xs) next.parts filled).0
 
-          pub strike_pass : Striking K t from n w u b.right left links
+          none : in_sight K (face_of b) ≡ false
+          none = unseen K (face_of b) some_unit none_seen
+
+          kept : b ≡ block b.list b.left b.right (struck K (face_of b))
+          kept = ap (λ (f : Face C). block b.list b.left b.right f) (sym (struck_same K (face_of b) none))
+
+          pub strike_pass : Striking K t from n w (set u i b) b.right left links
           strike_pass = record {
-            walk = marking_keep s.walk next read face_same;
-            owed = let none-shown : shown K (face_of b) ≡ 0 = hidden_shown K (face_of b) none in let sum = owed in omega arith;
+            walk = marking_write s.walk next read kept;
+            owed = let e = owed in omega arith;
             joins = ap (λ (test : Bool). bit_or links (cond test (bit_or b.links (union K next.rest)) (union K next.rest))) (sym none) ∙ joins;
           }
 
-          pub strike_pass_falls : length (cells u b.right) < length (cells u cur)
-          strike_pass_falls = marking_falls s.walk next (marking_keep s.walk next read face_same) refl
+          pub strike_pass_falls : length (cells (set u i b) b.right) < length (cells u cur)
+          strike_pass_falls = marking_falls s.walk next (marking_write s.walk next read kept) refl

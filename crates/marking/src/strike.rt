@@ -11,18 +11,18 @@ pub fn strike<C: Content>(blocks: &mut [Block<C>], from: Option<usize>, count: u
     ensures { (w : Strikable C.Content blocks.old from count) → Struck C.Content blocks.old from count w blocks.new result }
 {
     let mut left = count;
-    let mut links = 0u64;
+    let mut links = 0;
     let mut cur = from;
-    while let Some(i) = cur {
-        if left == 0 {
-            return links;
-        }
-        let b = blocks[i];
+    while left > 0
+        && let Some(i) = cur
+    {
+        let b = &mut blocks[i];
         cur = b.right;
-        if !b.removed && b.content.countable() {
-            left -= b.content.len();
+        let n = b.shown();
+        if n > 0 {
+            left -= n;
             links |= b.links;
-            blocks[i] = Block { removed: true, ..b };
+            b.removed = true;
         }
     }
     links

@@ -1,56 +1,37 @@
-use Rattle.std.proofs.Common.{◌≡◌, ◌<◌, false, not, length, sym, ◌∙◌, arith, rules}
-use Rattle.std.proofs.lemmas.Bool.{and_left, and_right, not_from_true}
-use Rattle.table.specs.Cells.{face_of}
-use Rattle.marking.specs.Strikes.{in_sight}
+use Rattle.std.proofs.Common.{◌<◌, length, get_or, ap, arith, rules}
 use Rattle.marking.proofs.Strikes as S
 use Rattle.marking.proofs.strike.strike.Goals as goal
-use Rattle.marking.proofs.strike.strike.Goals.{else-not-b-via-then-not-b+else-countable, else-not-b-via-else-not-b}
 
-pub loop-cur-init : goal.loop-cur-init
-loop-cur-init g c = λ w. S.strike_start w
-
-pub returns-then-left-eq0 : goal.returns-then-left-eq0
-returns-then-left-eq0 g c = λ w. S.strike-done w (c.loop-cur.invariant w) c.if-left-eq0.true
+pub loop-left-init : goal.loop-left-init
+loop-left-init g c = λ w. S.strike_start w
 
 pub bounds-blocks-i : goal.bounds-blocks-i
-bounds-blocks-i g c = S.strike-within c.requires (c.loop-cur.invariant c.requires) c.in-Some.is (omega arith)
+bounds-blocks-i g c = S.strike-within c.requires (c.loop-left.invariant c.requires) c.in-Some.is c.loop-left-test.true
 
 pub offset_bounds-blocks-i : goal.offset_bounds-blocks-i
 offset_bounds-blocks-i g c = let lt : c.in-Some.i < length c.args.blocks.now = omega (arith, bounds-blocks-i g c) in search rules
 
 pub overflow_sub-left : goal.overflow_sub-left
-overflow_sub-left g c =
-    let le = S.strike_enough c.requires (c.loop-cur.invariant c.requires) c.in-Some.is (omega arith) c.index-blocks-i.is c.if-not-b.true (sym c.countable.ensures ∙ c.if-countable.true) in
-    omega arith
+overflow_sub-left g c = omega (arith, c.shown-n.ensures, S.strike_enough c.requires (c.loop-left.invariant c.requires) c.in-Some.is c.loop-left-test.true (ap (get_or c.loop-left.blocks c.in-Some.i) c.index-blocks-i.is))
 
-pub bounds-blocks-i-then-countable : goal.bounds-blocks-i-then-countable
-bounds-blocks-i-then-countable g c = S.strike-within c.requires (c.loop-cur.invariant c.requires) c.in-Some.is (omega arith)
+pub loop-left-smaller-then-n-gt0 : goal.loop-left-smaller-then-n-gt0
+loop-left-smaller-then-n-gt0 g c =
+    S.strike_mark_falls c.requires (c.loop-left.invariant c.requires) c.in-Some.is c.loop-left-test.true (ap (get_or c.loop-left.blocks c.in-Some.i) c.index-blocks-i.is) (omega (arith, c.shown-n.ensures, c.if-n-gt0.true))
 
-pub offset_bounds-blocks-i-then-countable : goal.offset_bounds-blocks-i-then-countable
-offset_bounds-blocks-i-then-countable g c = let lt : c.in-Some.i < length c.args.blocks.now = omega (arith, bounds-blocks-i-then-countable g c) in search rules
+pub loop-left-preserved-then-n-gt0 : goal.loop-left-preserved-then-n-gt0
+loop-left-preserved-then-n-gt0 g c = λ w.
+    S.strike-mark w (c.loop-left.invariant w) c.in-Some.is c.loop-left-test.true (ap (get_or c.loop-left.blocks c.in-Some.i) c.index-blocks-i.is) (omega (arith, c.shown-n.ensures, c.if-n-gt0.true)) c.shown-n.result c.shown-n.ensures
 
-pub loop-cur-smaller-then-countable : goal.loop-cur-smaller-then-countable
-loop-cur-smaller-then-countable g c =
-    S.strike_mark_falls c.requires (c.loop-cur.invariant c.requires) c.in-Some.is (omega arith) c.index-blocks-i.is c.if-not-b.true (sym c.countable.ensures ∙ c.if-countable.true)
+pub loop-left-smaller : goal.loop-left-smaller
+loop-left-smaller g c =
+    S.strike_pass_falls c.requires (c.loop-left.invariant c.requires) c.in-Some.is c.loop-left-test.true (ap (get_or c.loop-left.blocks c.in-Some.i) c.index-blocks-i.is) (omega (arith, c.shown-n.ensures, c.if-n-gt0.false))
 
-pub loop-cur-preserved-then-countable : goal.loop-cur-preserved-then-countable
-loop-cur-preserved-then-countable g c = λ w.
-    S.strike-mark w (c.loop-cur.invariant w) c.in-Some.is (omega arith) c.index-blocks-i.is c.if-not-b.true (sym c.countable.ensures ∙ c.if-countable.true) c.len-left.result c.len-left.ensures
+pub loop-left-preserved : goal.loop-left-preserved
+loop-left-preserved g c = λ w.
+    S.strike_pass w (c.loop-left.invariant w) c.in-Some.is c.loop-left-test.true (ap (get_or c.loop-left.blocks c.in-Some.i) c.index-blocks-i.is) (omega (arith, c.shown-n.ensures, c.if-n-gt0.false))
 
-unseen : (g : _) (c : goal.Joined-else-not-b g) → in_sight g.C.Content (face_of c.index-blocks-i.result) ≡ false
-unseen g c =
-    let counts = g.C.Content.counts c.index-blocks-i.result.content in
-    let removed = c.index-blocks-i.result.removed in
-    elim c.else-not-b.branch [
-      | else-not-b-via-then-not-b+else-countable w ↦ and_left counts (not removed) (sym w.countable.ensures ∙ w.if-countable.false)
-      | else-not-b-via-else-not-b w ↦ and_right counts (not removed) (not_from_true removed w.if-not-b.false)
-    ]
+pub returns-after-loop-left : goal.returns-after-loop-left
+returns-after-loop-left g c = λ w. S.strike-done w (c.loop-left.invariant w) (let none = c.loop-left-test.false in omega arith)
 
-pub loop-cur-smaller : goal.loop-cur-smaller
-loop-cur-smaller g c = S.strike_pass_falls c.requires (c.loop-cur.invariant c.requires) c.in-Some.is (omega arith) c.index-blocks-i.is (unseen g c)
-
-pub loop-cur-preserved : goal.loop-cur-preserved
-loop-cur-preserved g c = λ w. S.strike_pass w (c.loop-cur.invariant w) c.in-Some.is (omega arith) c.index-blocks-i.is (unseen g c)
-
-pub returns : goal.returns
-returns g c = λ w. S.strike_end w (c.loop-cur.invariant w) c.in_default.is
+pub returns-in-loop-left : goal.returns-in-loop-left
+returns-in-loop-left g c = λ w. S.strike_end w (c.loop-left.invariant w) (search rules)

@@ -4,8 +4,8 @@ use Rattle.marking.specs.Strikes.{Strikable}
 use Rattle.marking.proofs.Strikes.{Striking}
 use Rattle.marking.proofs.strike.strike.Given as goal
 
-abbrev pub invariant-loop-cur : goal.invariant-loop-cur
-invariant-loop-cur g l = (w : Strikable g.C.Content l.initial.blocks l.initial.cur l.count) → Striking g.C.Content l.initial.blocks l.initial.cur l.count w l.blocks l.cur l.left l.links
+abbrev pub invariant-loop-left : goal.invariant-loop-left
+invariant-loop-left g l = (w : Strikable g.C.Content l.initial.blocks l.initial.cur l.count) → Striking g.C.Content l.initial.blocks l.initial.cur l.count w l.blocks l.cur l.left l.links
 
-abbrev pub decreases-loop-cur : goal.decreases-loop-cur
-decreases-loop-cur g l = length (cells l.blocks l.cur)
+abbrev pub decreases-loop-left : goal.decreases-loop-left
+decreases-loop-left g l = length (cells l.blocks l.cur)
