@@ -8,7 +8,7 @@ use Rattle.content.specs.Lawful.{Lawful}
 use Rattle.table.specs.declared.block.Block.{Block}
 use Rattle.table.specs.declared.lookup.Place.{Place}
 use Rattle.table.specs.declared.lookup.Place.TheVariants.{Front, After, Past}
-use Rattle.table.specs.Cells.{Face, Cell, cell, block, front, last, Holds, Path, cells, Stands}
+use Rattle.table.specs.Cells.{Face, Cell, cell, block, face_of, front, last, Holds, Path, cells, Stands}
 use Rattle.table.specs.Cuts.{left_piece, right_piece, Cuttable, Cut}
 use Rattle.table.specs.Lookups.{shown, visible, SoughtAt, Sought}
 use Rattle.table.proofs.Paths.{last-append, seg_back, holds_unique}
@@ -22,18 +22,15 @@ use Rattle.block_store.proofs.Insides.{inside_zero, inside_past, inside_at, insi
 
 module _ {C : Type 0} where
   -- The block in the record of one of the cells of a list that stands.
-  module _ (t : List (Block C)) (l : ℕ) (start : Option ℕ) (stands : Stands t l start) (pre : List (Cell C)) (i : ℕ) (f : Face C) (post : List (Cell C)) (parts : cells t start ≡ pre ++ cell i f ∷ post) where
+  module _ {t : List (Block C)} {l : ℕ} {start : Option ℕ} (stands : Stands t l start) (pre : List (Cell C)) (i : ℕ) (f : Face C) (post : List (Cell C)) (parts : cells t start ≡ pre ++ cell i f ∷ post) where
     holds_cell : Holds t i (block l (last None pre) (front post) f)
     holds_cell = (seg_back t l None pre (cell i f ∷ post) None (subst (λ (cs : List (Cell C)). Path t l None cs) parts stands.path)).0
 
     pub cell-within : i < length t
     cell-within = holds_cell.within
 
-    pub cell-block : (b : Block C) → b ≡ get_or t i b → b ≡ block l (last None pre) (front post) f
-    cell-block b e = holds_unique t i b _ (record { within = cell-within; is = e }) holds_cell
-
-    pub cell_content : (b : Block C) → b ≡ get_or t i b → b.content ≡ f.content
-    cell_content b e = ap (λ (y : Block C). y.content) (cell-block b e)
+    pub cell-face : (b : Block C) → b ≡ get_or t i b → face_of (get_or t i b) ≡ f
+    cell-face b e = ap face_of (holds_unique t i (get_or t i b) _ (record { within = cell-within; is = ap (get_or t i) e }) holds_cell)
 
   pub ends-shown : (K : Ghosts C) (xs : List (Cell C)) (c : Cell C) → c.face.removed ≡ false → K.counts c.face.content ≡ true → EndsShown K (xs ++ c ∷ [])
   ends-shown K [] c r n = (r, n)

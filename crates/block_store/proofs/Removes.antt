@@ -12,7 +12,7 @@ use Rattle.table.specs.Cells.{Face, Cell, cell, front}
 use Rattle.table.specs.Cuts.{left_piece, right_piece}
 use Rattle.table.specs.Gaps as table
 use Rattle.table.specs.Lookups.{shown, visible}
-use Rattle.table.proofs.Paths.{all_front, all_back}
+use Rattle.table.proofs.Paths.{all_front, all_back, all_join}
 use Rattle.block_store.specs.declared.gap.Gap.{Gap}
 use Rattle.block_store.specs.Lists.{front_of, blocks_of, Good, Shape, Changed}
 use Rattle.block_store.specs.Cuts.{one_if, CutBlock, pieces}
@@ -201,5 +201,5 @@ module _ {C : Type 0} (K : Ghosts C) where
 
             among : (P : Cell C → Type 0) → AllByRecursion P (b.pre ++ (ms ++ ys)) → ((c : Cell C) → P c → P (struck_cell K c)) → AllByRecursion P (b.pre ++ (map (struck_cell K) ms ++ ys))
             among P h f =
-                S.all_join P b.pre _ (all_front P b.pre (ms ++ ys) h)
-                (S.all_join P (map (struck_cell K) ms) ys (each P ms (all_front P ms ys (all_back P b.pre (ms ++ ys) h)) f) (all_back P ms ys (all_back P b.pre (ms ++ ys) h)))
+                all_join P b.pre _ (all_front P b.pre (ms ++ ys) h)
+                (all_join P (map (struck_cell K) ms) ys (each P ms (all_front P ms ys (all_back P b.pre (ms ++ ys) h)) f) (all_back P ms ys (all_back P b.pre (ms ++ ys) h)))

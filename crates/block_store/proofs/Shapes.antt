@@ -10,7 +10,7 @@ use Rattle.table.specs.Cells.{Cell, cell, Apart, cells, Stands}
 use Rattle.table.specs.Cuts.{left_piece, right_piece, Cuttable, Cut}
 use Rattle.table.specs.Lookups.{Lacks}
 use Rattle.source.specs.declared.id.Id.{Id}
-use Rattle.table.proofs.Paths.{all_front, all_back}
+use Rattle.table.proofs.Paths.{all_front, all_back, all_join}
 use Rattle.table.proofs.Computed.{cells_of}
 use Rattle.block_store.specs.Lists.{front_of, blocks_of, Good, total, Shape, Changed}
 use Rattle.block_store.specs.Cuts.{CutBlock, pieces}
@@ -37,10 +37,6 @@ total_changed f g (suc n) l x y lt e o = step (λ lt'. total_changed f g n l x y
         let b : total g n + x ≡ total f n + y = rec (omega arith) in
         let a : g n ≡ f n = o n ne in
         omega arith
-
-pub all_join : {X : Type 0} (P : X → Type 0) (xs ys : List X) → AllByRecursion P xs → AllByRecursion P ys → AllByRecursion P (xs ++ ys)
-all_join P [] ys a b = b
-all_join P (x ∷ xs) ys a b = (a.0, all_join P xs ys a.1 b)
 
 pub all_at : {X : Type 0} (P : X → Type 0) (xs : List X) (x : X) (ys : List X) → AllByRecursion P (xs ++ x ∷ ys) → P x
 all_at P xs x ys a = (all_back P xs (x ∷ ys) a).0

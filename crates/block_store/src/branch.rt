@@ -14,7 +14,7 @@ use table::gap::{left_edge, right_edge};
 use table::splice::splice_in;
 
 /// What a call that changes a list's blocks came to.
-#[derive(Clone, Copy)]
+#[derive(Clone, Copy, Debug, PartialEq, Eq)]
 pub struct Outcome {
     /// The link set that it answers.
     pub links: u64,
@@ -22,36 +22,30 @@ pub struct Outcome {
     pub used: usize,
 }
 
-// Puts a new block into the free record `j`, after the block at `left` or at the front of its list. Answers its link set.
+// Puts a new block into the free record `j`, after the block at `left` or at the front of its list, and answers its link set.
+// Its id, list and content are those of `new`, and what else it holds is not taken from there.
 fn put_new<C: Content>(
     blocks: &mut [Block<C>],
     front: &mut Option<usize>,
     links: &Links,
-    list: u8,
     left: Option<usize>,
     j: usize,
-    id: Id,
-    content: C,
+    new: Block<C>,
 ) -> u64
-    requires { Puttable C.Content blocks.old list front.old left j }
-    ensures { (w : Puttable C.Content blocks.old list front.old left j) → NewBlock C.Content links.now blocks.old blocks.new list front.new j id content w.pre w.post result }
+    requires { Puttable C.Content blocks.old new.list front.old left j }
+    ensures { (w : Puttable C.Content blocks.old new.list front.old left j) → NewBlock C.Content links.now blocks.old blocks.new new.list front.new j new.id new.content w.pre w.post result }
 {
-    let start = *front;
-    let a = left_edge(blocks, start, left);
+    let a = left_edge(blocks, *front, left);
     let b = right_edge(blocks, a.right);
-    let joined = links.join(list, a.last, b.first, a.links, b.links);
-    let new = Block {
-        id,
-        list,
-        left: None,
-        right: None,
+    let joined = links.join(new.list, a.last, b.first, a.links, b.links);
+    let joining = Block {
         origin: a.last,
         right_origin: b.first,
         removed: false,
         links: joined,
-        content,
+        ..new
     };
-    splice_in(blocks, front, left, j, new);
+    splice_in(blocks, front, left, j, joining);
     joined
 }
 
@@ -77,9 +71,12 @@ pub fn insert_at<C: Content>(
         return None;
     }
     let j = open_gap(blocks, fronts, used, l, index, gap);
-    let mut front = fronts[l];
-    let joined = put_new(blocks, &mut front, links, list, gap.left(), j, id, content);
-    fronts[l] = front;
+    let new = Block {
+        id,
+        list,
+        ..Block::free(content)
+    };
+    let joined = put_new(blocks, &mut fronts[l], links, gap.left(), j, new);
     Some(Outcome {
         links: joined,
         used: j + 1,

@@ -1,5 +1,5 @@
 // Finding an id among the lists, and cutting there.
-ghost use Rattle.std.specs.Prelude.{◌≡◌, ℕ, ◌^◌, ◌<◌, ◌≤◌, length, count_ones};
+ghost use Rattle.std.specs.Prelude.{ℕ, ◌≤◌, length};
 ghost use Rattle.block_store.specs.Lists.{Shape, Shaped};
 ghost use Rattle.block_store.specs.Locates.{Located, CutIs, used_after, CountIs};
 
@@ -10,7 +10,7 @@ use table::lookup::find;
 use table::splice::split;
 
 /// Why no cut was made.
-#[derive(Clone, Copy)]
+#[derive(Clone, Copy, Debug, PartialEq, Eq)]
 pub enum CutRefusal {
     /// No list has the id.
     NeverInserted,
@@ -28,8 +28,8 @@ pub fn locate<C: Content>(
     requires { Shaped C.Content blocks.now used fronts.now }
     ensures { Located C.Content id blocks.now fronts.now result }
 {
-    for l in 0..fronts.len() {
-        if let Some(at) = find(blocks, fronts[l], id) {
+    for front in fronts {
+        if let Some(at) = find(blocks, *front, id) {
             return Some(at);
         }
     }
@@ -50,27 +50,15 @@ pub fn cut_at<C: Content>(
     ensures tables { CutIs C.Content id blocks.old blocks.new fronts.now used limit result }
     ensures shape { (n : ℕ) → Shape C.Content n blocks.old used fronts.now → Shape C.Content n blocks.new (used_after used result) fronts.now }
 {
-    match locate(blocks, fronts, used, id) {
-        None => Err(CutRefusal::NeverInserted),
-        Some((i, o)) => {
-            if o == 0 {
-                Ok(used)
-            } else if used < limit {
-                split(blocks, i, o, used);
-                Ok(used + 1)
-            } else {
-                Err(CutRefusal::TooFewRecords)
-            }
-        }
+    let (i, o) = locate(blocks, fronts, used, id).ok_or(CutRefusal::NeverInserted)?;
+    if o == 0 {
+        return Ok(used);
     }
-}
-
-// How many links a link set holds; it is one of 64 links.
-fn ones_in(links: u64) -> u32
-    ensures count { result ≡ count_ones links }
-    ensures small { links < 2 ^ 64 }
-{
-    links.count_ones()
+    if used >= limit {
+        return Err(CutRefusal::TooFewRecords);
+    }
+    split(blocks, i, o, used);
+    Ok(used + 1)
 }
 
 /// How many links the link set of the block that has an id holds.
@@ -83,11 +71,6 @@ pub fn count_links<C: Content>(
     requires { Shaped C.Content blocks.now used fronts.now }
     ensures { CountIs C.Content id blocks.now fronts.now result }
 {
-    match locate(blocks, fronts, used, id) {
-        None => None,
-        Some((i, _)) => {
-            let b = blocks[i];
-            Some(ones_in(b.links))
-        }
-    }
+    let (i, _) = locate(blocks, fronts, used, id)?;
+    Some(blocks[i].links.count_ones())
 }

@@ -41,10 +41,7 @@ pub fn find_gap<C: Content>(
 {
     let place = seek(blocks, fronts[l], index);
     let needs = match place {
-        Place::After(i, o) => {
-            let b = blocks[i];
-            if o < b.content.len() { 1 } else { 0 }
-        }
+        Place::After(i, o) => usize::from(o < blocks[i].content.len()),
         _ => 0,
     };
     Gap { place, needs }
@@ -64,15 +61,12 @@ pub fn open_gap<C: Content>(
     ensures tables { Opened C.Content blocks.old blocks.new fronts.now used l index gap result }
     ensures shape { (n : ℕ) → Shape C.Content n blocks.old used fronts.now → Shape C.Content n blocks.new result fronts.now }
 {
-    match gap.place {
-        Place::After(i, o) => {
-            if gap.needs == 0 {
-                used
-            } else {
-                split(blocks, i, o, used);
-                used + 1
-            }
-        }
-        _ => used,
+    let Place::After(i, o) = gap.place else {
+        return used;
+    };
+    if gap.needs == 0 {
+        return used;
     }
+    split(blocks, i, o, used);
+    used + 1
 }

@@ -14,7 +14,7 @@ returns g c =
     let shape = c.open_gap-j.ensures.shape c.requires.words c.requires.shape in
     let room : c.open_gap-j.result < c.args.limit = omega (arith, o.records, c.find_gap-gap.ensures.needs, c.if-limit-used.false) in
     let long : length c.open_gap-j.new.blocks ≡ length c.args.blocks.now = omega arith in
-    let b = c.put_new-joined.ensures (I.put_here c.requires o shape room long c.left.result c.left.ensures) in
+    let b = rw c.free.ensures at (c.put_new-joined.ensures (I.put_here c.requires o shape room long c.left.result c.left.ensures)) in
     record {
       tables = I.inserted c.requires o shape room long b;
       shape = λ n s fits. I.inserted_shape c.requires o shape room long b n (c.open_gap-j.ensures.shape n s) fits (omega arith);

@@ -11,4 +11,4 @@ pub returns : goal.returns
 returns g c = λ w.
     let la = c.left_edge-a.ensures (I.gap_of w) in
     let rb = subst (λ (cs : List (Cell g.row.C.Denot)). RightIs cs c.right_edge-b.result) (I.right_cells w c.left_edge-a.result.right la.right) c.right_edge-b.ensures in
-    I.new_block w c.args.links.now c.args.id c.args.content c.join-joined.result la rb c.join-joined.ensures (c.splice_in.ensures (I.splice_of w))
+    I.new_block w c.args.links.now c.args.new.id c.args.new.content c.join-joined.result la rb c.join-joined.ensures (c.splice_in.ensures (I.splice_of w))

@@ -11,23 +11,23 @@ laws g = record { sized = g.met.C.Content.sized; steady = g.met.C.Content.steady
 
 pub split-requires : goal.split-requires
 split-requires g c =
-    let low : 0 < c.in-Some.o = (let ne = c.if-o-eq0.false in omega arith) in
-    let at = c.in-Some.ensures in
-    S.cuttable c.requires.shape.shape at.list (found_cut at.found low) (omega (arith, c.if-used-limit.true, c.requires.fits))
+    let low : 0 < c.in_ok-i.o = (let ne = c.if-o-eq0.false in omega arith) in
+    let at = rw c.in_ok-i.ensures.ok_part at c.locate.ensures in
+    S.cuttable c.requires.shape.shape at.list (found_cut at.found low) (omega (arith, c.if-used-limit.false, c.requires.fits))
 
-pub returns-then-used-limit : goal.returns-then-used-limit
-returns-then-used-limit g c =
-    let low : 0 < c.in-Some.o = (let ne = c.if-o-eq0.false in omega arith) in
-    let at = c.in-Some.ensures in
-    let room : c.args.used < length c.args.blocks.now = omega (arith, c.if-used-limit.true, c.requires.fits) in
+pub returns : goal.returns
+returns g c =
+    let low : 0 < c.in_ok-i.o = (let ne = c.if-o-eq0.false in omega arith) in
+    let at = rw c.in_ok-i.ensures.ok_part at c.locate.ensures in
+    let room : c.args.used < length c.args.blocks.now = omega (arith, c.if-used-limit.false, c.requires.fits) in
     let changed = S.cut_changed c.requires.shape.shape at.list (found_cut at.found low) room (c.split.ensures (S.cuttable c.requires.shape.shape at.list (found_cut at.found low) room)) in
-    let one : cut_needs c.in-Some.o ≡ 1 = grind (arith, nat_tests) in
+    let one : cut_needs c.in_ok-i.o ≡ 1 = grind (arith, nat_tests) in
     record {
       tables = record {
-        place = c.in-Some.i;
-        offset = c.in-Some.o;
+        place = c.in_ok-i.i;
+        offset = c.in_ok-i.o;
         at = at;
-        enough = omega (arith, one, c.if-used-limit.true);
+        enough = omega (arith, one, c.if-used-limit.false);
         records = omega (arith, one);
         unchanged = λ e. absurd (omega arith);
         changed = λ low'. changed;

@@ -3,13 +3,13 @@ use Rattle.block_store.proofs.Shapes.{nowhere_past}
 use Rattle.block_store.proofs.cut.locate.Goals as goal
 
 pub find-requires : goal.find-requires
-find-requires g c = record { list = c.loop-l.l; stands = c.requires.shape.stands c.loop-l.l }
+find-requires g c = record { list = c.loop-front.front-index; stands = c.requires.shape.stands c.loop-front.front-index }
 
 pub returns-in-Some : goal.returns-in-Some
-returns-in-Some g c = record { list = c.loop-l.l; known = omega arith; found = c.in-Some.ensures; before = c.loop-l.invariant }
+returns-in-Some g c = record { list = c.loop-front.front-index; known = c.loop-front-test.true; found = c.in-Some.ensures; before = c.loop-front.invariant }
 
-pub loop-l-preserved : goal.loop-l-preserved
-loop-l-preserved g c = below_more _ _ c.loop-l.invariant c.in_default.ensures
+pub loop-front-preserved : goal.loop-front-preserved
+loop-front-preserved g c = below_more _ _ c.loop-front.invariant c.in_default.ensures
 
 pub returns : goal.returns
-returns g c = nowhere_past g.C.Content c.args.id c.args.blocks.now c.args.fronts.now (λ m lt. c.loop-l.invariant m (omega arith))
+returns g c = nowhere_past g.C.Content c.args.id c.args.blocks.now c.args.fronts.now (λ m lt. c.loop-front.invariant m (let end = c.loop-front-test.false in omega arith))

@@ -3,5 +3,5 @@ use Rattle.block_store.specs.Lists.{blocks_of}
 use Rattle.table.specs.Lookups.{Lacks}
 use Rattle.block_store.proofs.cut.locate.Given as goal
 
-abbrev pub invariant-loop-l : goal.invariant-loop-l
-invariant-loop-l g l = (m : ℕ) → m < l.l → Lacks g.C.Content l.id (blocks_of l.blocks l.fronts m)
+abbrev pub invariant-loop-front : goal.invariant-loop-front
+invariant-loop-front g l = (m : ℕ) → m < l.front-index → Lacks g.C.Content l.id (blocks_of l.blocks l.fronts m)

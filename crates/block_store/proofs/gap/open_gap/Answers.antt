@@ -13,12 +13,12 @@ split-requires g c = G.ready c.requires c.in-After.i c.in-After.o c.in-After.is 
 pub returns-then-gap-eq0 : goal.returns-then-gap-eq0
 returns-then-gap-eq0 g c = record { tables = G.opened_edge c.requires c.in-After.i c.in-After.o c.in-After.is c.if-gap-eq0.true; shape = λ n s. s }
 
-pub returns-else-gap-eq0 : goal.returns-else-gap-eq0
-returns-else-gap-eq0 g c =
+pub returns : goal.returns
+returns g c =
     let cut = c.split.ensures (G.ready c.requires c.in-After.i c.in-After.o c.in-After.is c.if-gap-eq0.false) in
     record {
-      tables = G.opened_inside c.requires c.in-After.i c.in-After.o c.in-After.is c.if-gap-eq0.false (laws g) c.split.new.blocks cut;
-      shape = G.opened_shape c.requires c.in-After.i c.in-After.o c.in-After.is c.if-gap-eq0.false (laws g) c.split.new.blocks cut (omega arith);
+      tables = G.opened_inside c.requires c.in-After.i c.in-After.o c.in-After.is c.if-gap-eq0.false (laws g) _ cut;
+      shape = G.opened_shape c.requires c.in-After.i c.in-After.o c.in-After.is c.if-gap-eq0.false (laws g) _ cut (omega arith);
     }
 
 pub returns-in_default : goal.returns-in_default
