@@ -1,6 +1,12 @@
-use Rattle.std.proofs.Common.{◌≡◌, ◌<◌, length, arith}
+use Rattle.std.proofs.Common.{◌≡◌, ◌<◌, length, refl, arith}
 use Rattle.block_store.proofs.Inserts as I
 use Rattle.block_store.proofs.branch.insert_at.Goals as goal
+
+pub returns-then-limit-used : goal.returns-then-limit-used
+returns-then-limit-used g c = record {
+  tables = (omega (arith, c.requires.enough, c.find_gap-gap.ensures.needs, c.if-limit-used.true), refl, refl);
+  shape = λ n s fits. s;
+}
 
 pub put_new-joined-requires : goal.put_new-joined-requires
 put_new-joined-requires g c =

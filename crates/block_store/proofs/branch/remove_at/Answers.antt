@@ -1,4 +1,4 @@
-use Rattle.std.proofs.Common.{arith}
+use Rattle.std.proofs.Common.{refl, arith}
 use Rattle.content.specs.Lawful.{Lawful}
 use Rattle.block_store.proofs.Removes as R
 use Rattle.block_store.proofs.branch.remove_at.Given as given
@@ -6,6 +6,12 @@ use Rattle.block_store.proofs.branch.remove_at.Goals as goal
 
 laws : (g : given.Over) → Lawful g.C.Content
 laws g = record { sized = g.met.C.Content.sized; steady = g.met.C.Content.steady; halves = g.met.C.Content.halves }
+
+pub returns-then-limit-used : goal.returns-then-limit-used
+returns-then-limit-used g c = record {
+  tables = (omega (arith, c.requires.enough, c.find_gap-first.ensures.needs, c.find_gap-last.ensures.needs, c.if-limit-used.true), refl);
+  shape = λ n s. s;
+}
 
 pub find_gap-first-requires-2 : goal.find_gap-first-requires-2
 find_gap-first-requires-2 g c = record { known = c.requires.known; shape = record { words = c.requires.words; shape = c.open_gap-j.ensures.shape c.requires.words c.requires.shape } }
