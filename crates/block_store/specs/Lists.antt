@@ -13,6 +13,10 @@ front_of fronts l = slice_index_or fronts l None
 abbrev pub blocks_of : {C : Type 0} → List (Block C) → List (Option ℕ) → ℕ → List (Cell C)
 blocks_of t fronts l = cells t (front_of fronts l)
 
+-- Each list stands in the table.
+abbrev pub Stand : {C : Type 0} → List (Block C) → List (Option ℕ) → Type 0
+Stand t fronts = (l : ℕ) → Stands t l (front_of fronts l)
+
 -- A block has a unit, its ids pass no last clock, and its content fits n words.
 pub record Good {C : Type 0} (K : Ghosts C) (n : ℕ) (c : Cell C) : Type 0 where
   pub numbered : Numbered K c.face
@@ -26,7 +30,7 @@ total f (suc k) = f k + total f k
 -- The shape of the lists: each stands in the table, in the first `used` records and in no others, and these are as many as
 -- there are blocks in all; so a record from `used` on is free. No block is empty, and contents fit n words.
 pub record Shape {C : Type 0} (K : Ghosts C) (n : ℕ) (t : List (Block C)) (used : ℕ) (fronts : List (Option ℕ)) : Type 0 where
-  pub stands : (l : ℕ) → Stands t l (front_of fronts l)
+  pub stands : Stand t fronts
   pub low : (l : ℕ) → AllByRecursion (λ c. c.at < used) (blocks_of t fronts l)
   pub good : (l : ℕ) → AllByRecursion (Good K n) (blocks_of t fronts l)
   pub room : used ≤ length t

@@ -66,7 +66,7 @@ pub fn insert_at<C: Content>(
     ensures shape { (n : ℕ) → Shape C.Content n blocks.old used fronts.old → C.Content.reach content ≤ n → Shape C.Content n blocks.new (in_use used result) fronts.new }
 {
     let l = list as usize;
-    let gap = find_gap(blocks, fronts, used, l, index);
+    let gap = find_gap(blocks, fronts, l, index);
     if limit - used <= gap.needs {
         return None;
     }
@@ -98,14 +98,14 @@ pub fn remove_at<C: Content>(
     ensures tables { RemoveIs C.Content blocks.old blocks.new fronts.now used limit l index count result }
     ensures shape { (n : ℕ) → Shape C.Content n blocks.old used fronts.now → Shape C.Content n blocks.new (in_use used result) fronts.now }
 {
-    let first = find_gap(blocks, fronts, used, l, index);
-    let last = find_gap(blocks, fronts, used, l, index + count);
+    let first = find_gap(blocks, fronts, l, index);
+    let last = find_gap(blocks, fronts, l, index + count);
     if limit - used < last.needs + first.needs {
         return None;
     }
     let j = open_gap(blocks, fronts, used, l, index + count, last);
     // The first cut may have shortened the block that the other gap falls into.
-    let first = find_gap(blocks, fronts, j, l, index);
+    let first = find_gap(blocks, fronts, l, index);
     let k = open_gap(blocks, fronts, j, l, index, first);
     let edge = left_edge(blocks, fronts[l], first.left());
     let links = strike(blocks, edge.right, count);

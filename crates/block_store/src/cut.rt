@@ -1,6 +1,6 @@
 // Finding an id among the lists, and cutting there.
 ghost use Rattle.std.specs.Prelude.{ℕ, ◌≤◌, length};
-ghost use Rattle.block_store.specs.Lists.{Shape, Shaped};
+ghost use Rattle.block_store.specs.Lists.{Stand, Shape, Shaped};
 ghost use Rattle.block_store.specs.Locates.{Located, CutIs, used_after, CountIs};
 
 use content::content::Content;
@@ -22,10 +22,9 @@ pub enum CutRefusal {
 pub fn locate<C: Content>(
     blocks: &[Block<C>],
     fronts: &[Option<usize>],
-    used: usize,
     id: Id,
 ) -> Option<(usize, u32)>
-    requires { Shaped C.Content blocks.now used fronts.now }
+    requires { Stand blocks.now fronts.now }
     ensures { Located C.Content id blocks.now fronts.now result }
 {
     for front in fronts {
@@ -50,7 +49,7 @@ pub fn cut_at<C: Content>(
     ensures tables { CutIs C.Content id blocks.old blocks.new fronts.now used limit result }
     ensures shape { (n : ℕ) → Shape C.Content n blocks.old used fronts.now → Shape C.Content n blocks.new (used_after used result) fronts.now }
 {
-    let (i, o) = locate(blocks, fronts, used, id).ok_or(CutRefusal::NeverInserted)?;
+    let (i, o) = locate(blocks, fronts, id).ok_or(CutRefusal::NeverInserted)?;
     if o == 0 {
         return Ok(used);
     }
@@ -65,12 +64,11 @@ pub fn cut_at<C: Content>(
 pub fn count_links<C: Content>(
     blocks: &[Block<C>],
     fronts: &[Option<usize>],
-    used: usize,
     id: Id,
 ) -> Option<u32>
-    requires { Shaped C.Content blocks.now used fronts.now }
+    requires { Stand blocks.now fronts.now }
     ensures { CountIs C.Content id blocks.now fronts.now result }
 {
-    let (i, _) = locate(blocks, fronts, used, id)?;
+    let (i, _) = locate(blocks, fronts, id)?;
     Some(blocks[i].links.count_ones())
 }

@@ -1,6 +1,6 @@
 // The gap directly after so many visible units of a list: finding it, and opening it between two blocks.
 ghost use Rattle.std.specs.Prelude.{◌≡◌, ℕ, ◌<◌, length};
-ghost use Rattle.block_store.specs.Lists.{blocks_of, Shape, Shaped};
+ghost use Rattle.block_store.specs.Lists.{blocks_of, Stand, Shape};
 ghost use Rattle.block_store.specs.Gaps.{left_of, GapIs, Openable, Opened};
 
 use content::content::Content;
@@ -31,12 +31,11 @@ impl Gap {
 pub fn find_gap<C: Content>(
     blocks: &[Block<C>],
     fronts: &[Option<usize>],
-    used: usize,
     l: usize,
     index: u32,
 ) -> Gap
     requires known { l < length fronts.now }
-    requires shape { Shaped C.Content blocks.now used fronts.now }
+    requires stand { Stand blocks.now fronts.now }
     ensures { GapIs C.Content index (blocks_of blocks.now fronts.now l) result }
 {
     let place = seek(blocks, fronts[l], index);

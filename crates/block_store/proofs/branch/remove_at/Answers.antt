@@ -14,7 +14,7 @@ returns-then-limit-used g c = record {
 }
 
 pub find_gap-first-requires-2 : goal.find_gap-first-requires-2
-find_gap-first-requires-2 g c = record { known = c.requires.known; shape = record { words = c.requires.words; shape = c.open_gap-j.ensures.shape c.requires.words c.requires.shape } }
+find_gap-first-requires-2 g c = record { known = c.requires.known; stand = (c.open_gap-j.ensures.shape c.requires.words c.requires.shape).stands }
 
 pub open_gap-k-requires : goal.open_gap-k-requires
 open_gap-k-requires g c =

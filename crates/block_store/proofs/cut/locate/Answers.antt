@@ -3,7 +3,7 @@ use Rattle.block_store.proofs.Shapes.{nowhere_past}
 use Rattle.block_store.proofs.cut.locate.Goals as goal
 
 pub find-requires : goal.find-requires
-find-requires g c = record { list = c.loop-front.front-index; stands = c.requires.shape.stands c.loop-front.front-index }
+find-requires g c = record { list = c.loop-front.front-index; stands = c.requires c.loop-front.front-index }
 
 pub returns-in-Some : goal.returns-in-Some
 returns-in-Some g c = record { list = c.loop-front.front-index; known = c.loop-front-test.true; found = c.in-Some.ensures; before = c.loop-front.invariant }
