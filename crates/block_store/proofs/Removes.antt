@@ -16,7 +16,7 @@ use Rattle.table.proofs.Paths.{all_front, all_back, all_join}
 use Rattle.block_store.specs.declared.gap.Gap.{Gap}
 use Rattle.block_store.specs.Lists.{front_of, blocks_of, Good, Shape, Changed}
 use Rattle.block_store.specs.Cuts.{one_if, CutBlock, pieces}
-use Rattle.block_store.specs.Gaps.{inside, gap_needs, Gapped, left_of, GapIs, Openable, Opened}
+use Rattle.block_store.specs.Gaps.{inside, gap_needs, Gapped, left_of, GapIs, Closed, Opened}
 use Rattle.block_store.specs.Removes.{Removable, RemoveDone}
 use Rattle.block_store.proofs.Shapes as S
 use Rattle.block_store.proofs.Insides.{inside_zero, inside_past, inside-cut, parted}
@@ -64,6 +64,15 @@ module _ {C : Type 0} (K : Ghosts C) where
   gapped_open {i} {j} {cs} {pre} {post} g =
       ap (λ n. inside K n (pre ++ post)) (let e = g.before in let q : i ≡ visible K pre + 0 = omega arith in q) ∙ inside_past K pre post 0 ∙ inside_zero K post
 
+  abbrev pub closed : {t : List (Block C)} {fronts : List (Option ℕ)} {used limit l i n : ℕ} → Removable K t fronts used limit l i n
+      → {g : Gap} → GapIs K (i + n) (blocks_of t fronts l) g → used + g.needs ≤ length t → Closed K t used g
+  closed {fronts = fronts} {l = l} {i = i} {n = n} w gap room = record {
+    fronts = fronts;
+    list = l;
+    index = i + n;
+    openable = record { words = w.words; shape = w.shape; known = w.known; gap = gap; within = w.within; room = room };
+  }
+
   module _ (kind : Lawful K) {t : List (Block C)} {fronts : List (Option ℕ)} {used limit l i n : ℕ} (w : Removable K t fronts used limit l i n)
       {mid : List (Block C)} {last : Gap} {j : ℕ} (a : Opened K t mid fronts used l (i + n) last j) (mid-shape : Shape K w.words mid j fronts) where
     ne : i ≢ i + n
@@ -75,19 +84,24 @@ module _ {C : Type 0} (K : Ghosts C) where
     mid_visible : visible K (blocks_of mid fronts l) ≡ visible K (blocks_of t fronts l)
     mid_visible = ap (visible K) a.changed.is ∙ gapped_visible kind a.gapped
 
-    pub second : (first again : Gap) → first.needs ≡ gap_needs K i (blocks_of t fronts l) → last.needs ≡ gap_needs K (i + n) (blocks_of t fronts l) → GapIs K i (blocks_of mid fronts l) again
-        → used + (last.needs + first.needs) ≤ limit → length mid ≡ length t → Openable K mid fronts j l i again
-    second first again f la g room long = record {
-      words = w.words;
-      shape = mid-shape;
-      known = w.known;
-      gap = g;
-      within = (let e = mid_visible in let v = w.within in omega arith);
-      room =
-          (let e : again.needs ≡ gap_needs K i (blocks_of t fronts l) = g.needs ∙ mid_needs in
-          let r = a.records in
-          let fits = w.fits in
-          omega arith);
+    pub second_within : i ≤ visible K (blocks_of mid fronts l)
+    second_within = let e = mid_visible in let v = w.within in omega arith
+
+    pub second_room : (first again : Gap) → first.needs ≡ gap_needs K i (blocks_of t fronts l) → last.needs ≡ gap_needs K (i + n) (blocks_of t fronts l) → GapIs K i (blocks_of mid fronts l) again
+        → used + (last.needs + first.needs) ≤ limit → length mid ≡ length t → j + again.needs ≤ length mid
+    second_room first again f la gap room long =
+        let e : again.needs ≡ gap_needs K i (blocks_of t fronts l) = gap.needs ∙ mid_needs in
+        let r = a.records in
+        let fits = w.fits in
+        omega arith
+
+    abbrev pub second : (first again : Gap) → first.needs ≡ gap_needs K i (blocks_of t fronts l) → last.needs ≡ gap_needs K (i + n) (blocks_of t fronts l) → GapIs K i (blocks_of mid fronts l) again
+        → used + (last.needs + first.needs) ≤ limit → length mid ≡ length t → Closed K mid j again
+    second first again f la gap room long = record {
+      fronts = fronts;
+      list = l;
+      index = i;
+      openable = record { words = w.words; shape = mid-shape; known = w.known; gap = gap; within = second_within; room = second_room first again f la gap room long };
     }
 
     module _ {both : List (Block C)} {again : Gap} {k : ℕ} (b : Opened K mid both fronts j l i again k) (shape : Shape K w.words both k fronts) where

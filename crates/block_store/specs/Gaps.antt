@@ -53,6 +53,13 @@ pub record Openable {C : Type 0} (K : Ghosts C) (t : List (Block C)) (fronts : L
   pub within : i ≤ visible K (blocks_of t fronts l)
   pub room : used + g.needs ≤ length t
 
+-- A gap of some list that there is, with records enough to open it.
+pub record Closed {C : Type 0} (K : Ghosts C) (t : List (Block C)) (used : ℕ) (g : Gap) : Type 0 where
+  pub fronts : List (Option ℕ)
+  pub list : ℕ
+  pub index : ℕ
+  pub openable : Openable K t fronts used list index g
+
 -- The gap is open: what the list's blocks are then on its two sides, and which record is left of it.
 pub record Opened {C : Type 0} (K : Ghosts C) (t u : List (Block C)) (fronts : List (Option ℕ)) (used l i : ℕ) (g : Gap) (n : ℕ) : Type 0 where
   pub pre : List (Cell C)

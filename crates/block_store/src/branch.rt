@@ -66,11 +66,11 @@ pub fn insert_at<C: Content>(
     ensures shape { (n : ℕ) → Shape C.Content n blocks.old used fronts.old → C.Content.reach content ≤ n → Shape C.Content n blocks.new (in_use used result) fronts.new }
 {
     let l = list as usize;
-    let gap = find_gap(blocks, fronts, l, index);
+    let gap = find_gap(blocks, fronts[l], index);
     if limit - used <= gap.needs {
         return None;
     }
-    let j = open_gap(blocks, fronts, used, l, index, gap);
+    let j = open_gap(blocks, used, gap);
     let new = Block {
         id,
         list,
@@ -98,16 +98,17 @@ pub fn remove_at<C: Content>(
     ensures tables { RemoveIs C.Content blocks.old blocks.new fronts.now used limit l index count result }
     ensures shape { (n : ℕ) → Shape C.Content n blocks.old used fronts.now → Shape C.Content n blocks.new (in_use used result) fronts.now }
 {
-    let first = find_gap(blocks, fronts, l, index);
-    let last = find_gap(blocks, fronts, l, index + count);
+    let start = fronts[l];
+    let first = find_gap(blocks, start, index);
+    let last = find_gap(blocks, start, index + count);
     if limit - used < last.needs + first.needs {
         return None;
     }
-    let j = open_gap(blocks, fronts, used, l, index + count, last);
+    let j = open_gap(blocks, used, last);
     // The first cut may have shortened the block that the other gap falls into.
-    let first = find_gap(blocks, fronts, l, index);
-    let k = open_gap(blocks, fronts, j, l, index, first);
-    let edge = left_edge(blocks, fronts[l], first.left());
+    let first = find_gap(blocks, start, index);
+    let k = open_gap(blocks, j, first);
+    let edge = left_edge(blocks, start, first.left());
     let links = strike(blocks, edge.right, count);
     Some(Outcome { links, used: k })
 }

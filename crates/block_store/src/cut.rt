@@ -61,11 +61,7 @@ pub fn cut_at<C: Content>(
 }
 
 /// How many links the link set of the block that has an id holds.
-pub fn count_links<C: Content>(
-    blocks: &[Block<C>],
-    fronts: &[Option<usize>],
-    id: Id,
-) -> Option<u32>
+pub fn count_links<C: Content>(blocks: &[Block<C>], fronts: &[Option<usize>], id: Id) -> Option<u32>
     requires { Stand blocks.now fronts.now }
     ensures { CountIs C.Content id blocks.now fronts.now result }
 {

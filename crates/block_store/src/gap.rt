@@ -1,7 +1,9 @@
 // The gap directly after so many visible units of a list: finding it, and opening it between two blocks.
-ghost use Rattle.std.specs.Prelude.{◌≡◌, ℕ, ◌<◌, length};
-ghost use Rattle.block_store.specs.Lists.{blocks_of, Stand, Shape};
-ghost use Rattle.block_store.specs.Gaps.{left_of, GapIs, Openable, Opened};
+ghost use Rattle.std.specs.Prelude.{◌≡◌, ℕ};
+ghost use Rattle.table.specs.Cells.{cells};
+ghost use Rattle.table.specs.Lookups.{Listed};
+ghost use Rattle.block_store.specs.Lists.{Shape};
+ghost use Rattle.block_store.specs.Gaps.{left_of, GapIs, Closed, Opened};
 
 use content::content::Content;
 use table::block::Block;
@@ -27,18 +29,12 @@ impl Gap {
     }
 }
 
-/// The gap directly after `index` visible units of list `l`.
-pub fn find_gap<C: Content>(
-    blocks: &[Block<C>],
-    fronts: &[Option<usize>],
-    l: usize,
-    index: u32,
-) -> Gap
-    requires known { l < length fronts.now }
-    requires stand { Stand blocks.now fronts.now }
-    ensures { GapIs C.Content index (blocks_of blocks.now fronts.now l) result }
+/// The gap directly after `index` visible units of the list that begins at `start`.
+pub fn find_gap<C: Content>(blocks: &[Block<C>], start: Option<usize>, index: u32) -> Gap
+    requires { Listed blocks.now start }
+    ensures { GapIs C.Content index (cells blocks.now start) result }
 {
-    let place = seek(blocks, fronts[l], index);
+    let place = seek(blocks, start, index);
     let needs = match place {
         Place::After(i, o) => usize::from(o < blocks[i].content.len()),
         _ => 0,
@@ -46,19 +42,12 @@ pub fn find_gap<C: Content>(
     Gap { place, needs }
 }
 
-/// Opens a gap of list `l`: a block that it falls inside is cut, its right piece in the record `used`. Tells how many records
+/// Opens a gap of a list: a block that it falls inside is cut, its right piece in the record `used`. Tells how many records
 /// are then in use.
-pub fn open_gap<C: Content>(
-    blocks: &mut [Block<C>],
-    fronts: &[Option<usize>],
-    used: usize,
-    l: usize,
-    index: u32,
-    gap: Gap,
-) -> usize
-    requires { Openable C.Content blocks.old fronts.now used l index gap }
-    ensures tables { Opened C.Content blocks.old blocks.new fronts.now used l index gap result }
-    ensures shape { (n : ℕ) → Shape C.Content n blocks.old used fronts.now → Shape C.Content n blocks.new result fronts.now }
+pub fn open_gap<C: Content>(blocks: &mut [Block<C>], used: usize, gap: Gap) -> usize
+    requires { Closed C.Content blocks.old used gap }
+    ensures tables { (w : Closed C.Content blocks.old used gap) → Opened C.Content blocks.old blocks.new w.fronts used w.list w.index gap result }
+    ensures shape { (w : Closed C.Content blocks.old used gap) (n : ℕ) → Shape C.Content n blocks.old used w.fronts → Shape C.Content n blocks.new result w.fronts }
 {
     let Place::After(i, o) = gap.place else {
         return used;

@@ -13,36 +13,69 @@ returns-then-limit-used g c = record {
   shape = λ n s. s;
 }
 
+pub find_gap-first-requires : goal.find_gap-first-requires
+find_gap-first-requires g c = record { list = c.args.l; stands = c.requires.shape.stands c.args.l }
+
+pub find_gap-last-requires : goal.find_gap-last-requires
+find_gap-last-requires g c = record { list = c.args.l; stands = c.requires.shape.stands c.args.l }
+
+pub open_gap-j-requires : goal.open_gap-j-requires
+open_gap-j-requires g c = R.closed g.C.Content c.requires c.find_gap-last.ensures (omega (arith, c.requires.fits, c.requires.enough, c.if-limit-used.false))
+
 pub find_gap-first-requires-2 : goal.find_gap-first-requires-2
-find_gap-first-requires-2 g c = record { known = c.requires.known; stand = (c.open_gap-j.ensures.shape c.requires.words c.requires.shape).stands }
+find_gap-first-requires-2 g c =
+    let upto = R.closed g.C.Content c.requires c.find_gap-last.ensures (omega (arith, c.requires.fits, c.requires.enough, c.if-limit-used.false)) in
+    record { list = c.args.l; stands = (c.open_gap-j.ensures.shape upto c.requires.words c.requires.shape).stands c.args.l }
 
 pub open_gap-k-requires : goal.open_gap-k-requires
 open_gap-k-requires g c =
-    R.second g.C.Content (laws g) c.requires c.open_gap-j.ensures.tables (c.open_gap-j.ensures.shape c.requires.words c.requires.shape)
-    c.find_gap-first.result c.find_gap-first-2.result c.find_gap-first.ensures.needs c.find_gap-last.ensures.needs c.find_gap-first-2.ensures
-    (let h = c.if-limit-used.false in let e = c.requires.enough in omega arith) (omega arith)
+    let upto = R.closed g.C.Content c.requires c.find_gap-last.ensures (omega (arith, c.requires.fits, c.requires.enough, c.if-limit-used.false)) in
+    let a = c.open_gap-j.ensures.tables upto in
+    let s1 = c.open_gap-j.ensures.shape upto c.requires.words c.requires.shape in
+    R.second g.C.Content (laws g) c.requires a s1 c.find_gap-first.result c.find_gap-first-2.result c.find_gap-first.ensures.needs c.find_gap-last.ensures.needs c.find_gap-first-2.ensures
+    (omega (arith, c.requires.enough, c.if-limit-used.false)) (omega arith)
 
 pub left_edge-edge-requires : goal.left_edge-edge-requires
 left_edge-edge-requires g c =
-    let s1 = c.open_gap-j.ensures.shape c.requires.words c.requires.shape in
-    R.edge_gap g.C.Content (laws g) c.requires c.open_gap-j.ensures.tables s1 c.open_gap-k.ensures.tables (c.open_gap-k.ensures.shape c.requires.words s1) c.left.result c.left.ensures
+    let K = g.C.Content in
+    let upto = R.closed K c.requires c.find_gap-last.ensures (omega (arith, c.requires.fits, c.requires.enough, c.if-limit-used.false)) in
+    let a = c.open_gap-j.ensures.tables upto in
+    let s1 = c.open_gap-j.ensures.shape upto c.requires.words c.requires.shape in
+    let from =
+    R.second K (laws g) c.requires a s1 c.find_gap-first.result c.find_gap-first-2.result c.find_gap-first.ensures.needs c.find_gap-last.ensures.needs c.find_gap-first-2.ensures
+    (omega (arith, c.requires.enough, c.if-limit-used.false)) (omega arith) in
+    let b = c.open_gap-k.ensures.tables from in
+    let s2 = c.open_gap-k.ensures.shape from c.requires.words s1 in
+    R.edge_gap K (laws g) c.requires a s1 b s2 c.left.result c.left.ensures
 
 pub strike-links-requires : goal.strike-links-requires
 strike-links-requires g c =
-    let s1 = c.open_gap-j.ensures.shape c.requires.words c.requires.shape in
-    let s2 = c.open_gap-k.ensures.shape c.requires.words s1 in
-    let e = R.edge_gap g.C.Content (laws g) c.requires c.open_gap-j.ensures.tables s1 c.open_gap-k.ensures.tables s2 c.left.result c.left.ensures in
-    R.strikable g.C.Content (laws g) c.requires c.open_gap-j.ensures.tables s1 c.open_gap-k.ensures.tables s2 c.left_edge-edge.result (c.left_edge-edge.ensures e)
+    let K = g.C.Content in
+    let upto = R.closed K c.requires c.find_gap-last.ensures (omega (arith, c.requires.fits, c.requires.enough, c.if-limit-used.false)) in
+    let a = c.open_gap-j.ensures.tables upto in
+    let s1 = c.open_gap-j.ensures.shape upto c.requires.words c.requires.shape in
+    let from =
+    R.second K (laws g) c.requires a s1 c.find_gap-first.result c.find_gap-first-2.result c.find_gap-first.ensures.needs c.find_gap-last.ensures.needs c.find_gap-first-2.ensures
+    (omega (arith, c.requires.enough, c.if-limit-used.false)) (omega arith) in
+    let b = c.open_gap-k.ensures.tables from in
+    let s2 = c.open_gap-k.ensures.shape from c.requires.words s1 in
+    let le = c.left_edge-edge.ensures (R.edge_gap K (laws g) c.requires a s1 b s2 c.left.result c.left.ensures) in
+    R.strikable K (laws g) c.requires a s1 b s2 c.left_edge-edge.result le
 
 pub returns : goal.returns
 returns g c =
-    let a = c.open_gap-j.ensures.tables in
-    let b = c.open_gap-k.ensures.tables in
-    let s1 = c.open_gap-j.ensures.shape c.requires.words c.requires.shape in
-    let s2 = c.open_gap-k.ensures.shape c.requires.words s1 in
-    let le = c.left_edge-edge.ensures (R.edge_gap g.C.Content (laws g) c.requires a s1 b s2 c.left.result c.left.ensures) in
-    let st = c.strike-links.ensures (R.strikable g.C.Content (laws g) c.requires a s1 b s2 c.left_edge-edge.result le) in
+    let K = g.C.Content in
+    let upto = R.closed K c.requires c.find_gap-last.ensures (omega (arith, c.requires.fits, c.requires.enough, c.if-limit-used.false)) in
+    let a = c.open_gap-j.ensures.tables upto in
+    let s1 = c.open_gap-j.ensures.shape upto c.requires.words c.requires.shape in
+    let from =
+    R.second K (laws g) c.requires a s1 c.find_gap-first.result c.find_gap-first-2.result c.find_gap-first.ensures.needs c.find_gap-last.ensures.needs c.find_gap-first-2.ensures
+    (omega (arith, c.requires.enough, c.if-limit-used.false)) (omega arith) in
+    let b = c.open_gap-k.ensures.tables from in
+    let s2 = c.open_gap-k.ensures.shape from c.requires.words s1 in
+    let le = c.left_edge-edge.ensures (R.edge_gap K (laws g) c.requires a s1 b s2 c.left.result c.left.ensures) in
+    let st = c.strike-links.ensures (R.strikable K (laws g) c.requires a s1 b s2 c.left_edge-edge.result le) in
     record {
-      tables = R.removed g.C.Content (laws g) c.requires a s1 b s2 le st (R.in_limit g.C.Content (laws g) c.requires a s1 b s2 c.find_gap-first.result c.find_gap-first.ensures.needs c.find_gap-last.ensures.needs (let h = c.if-limit-used.false in let e = c.requires.enough in omega arith));
-      shape = λ m s. R.removed_shape g.C.Content (laws g) c.requires a s1 b s2 le st m (c.open_gap-k.ensures.shape m (c.open_gap-j.ensures.shape m s)) (omega arith);
+      tables = R.removed K (laws g) c.requires a s1 b s2 le st (R.in_limit K (laws g) c.requires a s1 b s2 c.find_gap-first.result c.find_gap-first.ensures.needs c.find_gap-last.ensures.needs (omega (arith, c.requires.enough, c.if-limit-used.false)));
+      shape = λ m s. R.removed_shape K (laws g) c.requires a s1 b s2 le st m (c.open_gap-k.ensures.shape from m (c.open_gap-j.ensures.shape upto m s)) (omega arith);
     }

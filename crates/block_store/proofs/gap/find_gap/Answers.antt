@@ -5,11 +5,8 @@ use Rattle.block_store.specs.Cuts.{one_if}
 use Rattle.block_store.proofs.Gaps as G
 use Rattle.block_store.proofs.gap.find_gap.Goals as goal
 
-pub seek-place-requires : goal.seek-place-requires
-seek-place-requires g c = record { list = c.args.l; stands = c.requires.stand c.args.l }
-
 pub bounds-blocks-i : goal.bounds-blocks-i
-bounds-blocks-i g c = G.cell-within (c.requires.stand c.args.l) _ _ _ _ c.in-After.ensures.parts
+bounds-blocks-i g c = G.cell-within c.requires.stands _ _ _ _ c.in-After.ensures.parts
 
 pub offset_bounds-blocks-i : goal.offset_bounds-blocks-i
 offset_bounds-blocks-i g c = let lt = bounds-blocks-i g c in omega arith
@@ -23,7 +20,7 @@ pub returns-in-After : goal.returns-in-After
 returns-in-After g c =
     let q = c.in-After.ensures in
     let size : c.len.result ≡ g.C.Content.size q.face.content =
-    c.len.ensures ∙ ap (λ (f : Face g.row.C.Denot). g.C.Content.size f.content) (G.cell-face (c.requires.stand c.args.l) _ _ _ _ q.parts c.index-blocks-i.result c.index-blocks-i.is) in
+    c.len.ensures ∙ ap (λ (f : Face g.row.C.Denot). g.C.Content.size f.content) (G.cell-face c.requires.stands _ _ _ _ q.parts c.index-blocks-i.result c.index-blocks-i.is) in
     G.gap_after g.C.Content c.args.index _ _ c.in-After.i c.in-After.o refl q (c.from-needs.ensures ∙ byte_is (ltb c.in-After.o c.len.result) ∙ ap (λ n. one_if (ltb c.in-After.o n)) size)
 
 pub returns-in_default : goal.returns-in_default

@@ -8,18 +8,17 @@ laws : (g : given.Over) → Lawful g.C.Content
 laws g = record { sized = g.met.C.Content.sized; steady = g.met.C.Content.steady; halves = g.met.C.Content.halves }
 
 pub split-requires : goal.split-requires
-split-requires g c = G.ready c.requires c.in-After.i c.in-After.o c.in-After.is c.if-gap-eq0.false
+split-requires g c = G.ready c.requires.openable c.in-After.i c.in-After.o c.in-After.is c.if-gap-eq0.false
 
 pub returns-then-gap-eq0 : goal.returns-then-gap-eq0
-returns-then-gap-eq0 g c = record { tables = G.opened_edge c.requires c.in-After.i c.in-After.o c.in-After.is c.if-gap-eq0.true; shape = λ n s. s }
+returns-then-gap-eq0 g c = record { tables = λ w. G.opened_edge w.openable c.in-After.i c.in-After.o c.in-After.is c.if-gap-eq0.true; shape = λ w n s. s }
 
 pub returns : goal.returns
 returns g c =
-    let cut = c.split.ensures (G.ready c.requires c.in-After.i c.in-After.o c.in-After.is c.if-gap-eq0.false) in
     record {
-      tables = G.opened_inside c.requires c.in-After.i c.in-After.o c.in-After.is c.if-gap-eq0.false (laws g) _ cut;
-      shape = G.opened_shape c.requires c.in-After.i c.in-After.o c.in-After.is c.if-gap-eq0.false (laws g) _ cut (omega arith);
+      tables = λ w. G.opened_inside w.openable c.in-After.i c.in-After.o c.in-After.is c.if-gap-eq0.false (laws g) _ (c.split.ensures (G.ready w.openable c.in-After.i c.in-After.o c.in-After.is c.if-gap-eq0.false));
+      shape = λ w. G.opened_shape w.openable c.in-After.i c.in-After.o c.in-After.is c.if-gap-eq0.false (laws g) _ (c.split.ensures (G.ready w.openable c.in-After.i c.in-After.o c.in-After.is c.if-gap-eq0.false)) (omega arith);
     }
 
 pub returns-in_default : goal.returns-in_default
-returns-in_default g c = record { tables = G.opened_rest c.requires c.in_default.not-After; shape = λ n s. s }
+returns-in_default g c = record { tables = λ w. G.opened_rest w.openable c.in_default.not-After; shape = λ w n s. s }
