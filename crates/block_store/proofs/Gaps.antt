@@ -1,6 +1,6 @@
 -- A gap that is found and opened.
 use Rattle.std.proofs.Common.{◌≡◌, ℕ, ◌+◌, ◌<◌, ◌≤◌, true, false, ltb, ◌≢◌, List, [], ◌∷◌, ◌++◌, length, get_or, Some, None, Option, sym, refl, ap, ◌∙◌, subst, inl, inr, append_assoc, arith}
-use Rattle.std.proofs.lemmas.Bool.{cases_Bool}
+use Rattle.std.proofs.lemmas.Bool.{cases_Bool, true≢false}
 use Rattle.std.proofs.lemmas.Bool.Decides.{nat_tests}
 use Rattle.std.specs.List.{AllByRecursion}
 use Rattle.content.specs.declared.content.Content.{Ghosts}
@@ -16,7 +16,7 @@ use Rattle.table.proofs.Walks.{visible_more, shown_all}
 use Rattle.block_store.specs.declared.gap.Gap.{Gap}
 use Rattle.block_store.specs.Lists.{blocks_of, Good, Shape, Changed}
 use Rattle.block_store.specs.Cuts.{one_if, CutBlock}
-use Rattle.block_store.specs.Gaps.{inside, gap_needs, EndsShown, Gapped, left_of, GapIs, Openable, Opened}
+use Rattle.block_store.specs.Gaps.{inside, gap_needs, EndsShown, Gapped, left_of, GapIs, Openable, Closed, Opened}
 use Rattle.block_store.proofs.Shapes as S
 use Rattle.block_store.proofs.Insides.{inside_zero, inside_past, inside_at, inside_beyond}
 
@@ -73,6 +73,15 @@ module _ {C : Type 0} where
       needs = n ∙ ap one_if (sym (needs_after p o q));
     }
 
+  abbrev pub closed : {K : Ghosts C} {t : List (Block C)} {fronts : List (Option ℕ)} {words used l i : ℕ} {g : Gap} → Shape K words t used fronts → l < length fronts
+      → GapIs K i (blocks_of t fronts l) g → i ≤ visible K (blocks_of t fronts l) → used + g.needs ≤ length t → Closed K t used g
+  closed {fronts = fronts} {words = words} {l = l} {i = i} shape known gap within room = record {
+    fronts = fronts;
+    list = l;
+    index = i;
+    openable = record { words = words; shape = shape; known = known; gap = gap; within = within; room = room };
+  }
+
   -- The blocks on both sides of an open gap are good.
   pub gapped_good : {K : Ghosts C} {i j : ℕ} {cs pre post : List (Cell C)} (n : ℕ) → Lawful K → Gapped K i j cs pre post → AllByRecursion (Good K n) cs → AllByRecursion (Good K n) (pre ++ post)
   gapped_good {K} {i} {j} {cs} n laws g good = elim (cases_Bool (inside K i cs)) [
@@ -108,7 +117,7 @@ module _ {C : Type 0} where
           post = q.post;
           gapped = record {
             whole = λ _. split;
-            cut = λ in-it. absurd (let wrong : true ≡ false = sym in-it ∙ out in let z : ◌≡◌ {A = ℕ} 0 1 = cc in omega arith);
+            cut = λ in-it. absurd (true≢false (sym in-it ∙ out));
             before =
                 (let a : visible K (q.pre ++ cell p q.face ∷ []) ≡ visible K q.pre + shown K q.face = visible_more K q.pre p q.face in
                 let b : shown K q.face ≡ K.size q.face.content = shown_all K q.face q.stays q.counted in
@@ -131,7 +140,7 @@ module _ {C : Type 0} where
           post = blocks_of t fronts l;
           gapped = record {
             whole = λ _. refl;
-            cut = λ in-it. absurd (let wrong : true ≡ false = sym in-it ∙ out in let z : ◌≡◌ {A = ℕ} 0 1 = cc in omega arith);
+            cut = λ in-it. absurd (true≢false (sym in-it ∙ out));
             before = sym z;
             ends = tt;
           };
@@ -178,7 +187,7 @@ module _ {C : Type 0} where
             pre = q.pre ++ cell p (left_piece K o q.face) ∷ [];
             post = cell used (right_piece K o q.face) ∷ q.post;
             gapped = record {
-              whole = λ out. absurd (let wrong : true ≡ false = sym in-it ∙ out in let z : ◌≡◌ {A = ℕ} 0 1 = cc in omega arith);
+              whole = λ out. absurd (true≢false (sym in-it ∙ out));
               cut = λ _. (the_cut, sym (append_assoc q.pre (cell p (left_piece K o q.face) ∷ []) (cell used (right_piece K o q.face) ∷ q.post)), q.sum);
               before =
                   (let a : visible K (q.pre ++ cell p (left_piece K o q.face) ∷ []) ≡ visible K q.pre + shown K (left_piece K o q.face) = visible_more K q.pre p (left_piece K o q.face) in

@@ -20,7 +20,7 @@ use Rattle.table.proofs.Computed.{cells_of}
 use Rattle.table.proofs.Afters.{within_all}
 use Rattle.block_store.specs.declared.gap.Gap as found
 use Rattle.block_store.specs.Lists.{front_of, blocks_of, Good, Shape, Changed}
-use Rattle.block_store.specs.Gaps.{left_of, GapIs, Closed, Opened}
+use Rattle.block_store.specs.Gaps.{left_of, Opened}
 use Rattle.block_store.specs.Inserts.{new_face, Joins, Puttable, NewBlock, Insertable, InsertDone}
 use Rattle.block_store.proofs.Shapes as S
 
@@ -57,15 +57,6 @@ module _ {C : Type 0} where
         now_cells = p.now_cells ∙ ap₂ (λ (o q : Option Id). w.pre ++ cell j (record { id = id; origin = o; right_origin = q; removed = false; links = r; content = x }) ∷ w.post) la.id rb.id;
         others = p.others;
       }
-
-  abbrev pub closed : {K : Ghosts C} {t : List (Block C)} {fronts : List (Option ℕ)} {used limit l i : ℕ} {id : Id} {x : C} → Insertable K t fronts used limit l i id x
-      → {g : found.Gap} → GapIs K i (blocks_of t fronts l) g → used + g.needs ≤ length t → Closed K t used g
-  closed {fronts = fronts} {l = l} {i = i} w gap room = record {
-    fronts = fronts;
-    list = l;
-    index = i;
-    openable = record { words = w.words; shape = w.shape; known = w.known; gap = gap; within = w.within; room = room };
-  }
 
   -- Once the gap is open, in the first free record.
   module _ {K : Ghosts C} {t : List (Block C)} {fronts : List (Option ℕ)} {used limit l i : ℕ} {id : Id} {x : C} (w : Insertable K t fronts used limit l i id x)

@@ -1,6 +1,6 @@
 -- Whether a gap lies inside a block.
 use Rattle.std.proofs.Common.{◌≡◌, ℕ, ◌+◌, ◌-◌, ◌<◌, ◌≤◌, Bool, true, false, cond, ◌&&◌, ◌||◌, ltb, ◌≢◌, ◌⊎◌, List, [], ◌∷◌, ◌++◌, sym, refl, ap, ◌∙◌, inl, inr, arith}
-use Rattle.std.proofs.lemmas.Bool.{cases_eq, cases_lt}
+use Rattle.std.proofs.lemmas.Bool.{cases_eq, cases_lt, true≢false}
 use Rattle.std.proofs.lemmas.Bool.Decides.{nat_tests}
 use Rattle.content.specs.declared.content.Content.{Ghosts}
 use Rattle.content.specs.Lawful.{Lawful}
@@ -87,9 +87,7 @@ module _ {C : Type 0} (K : Ghosts C) where
           → (pre : List (Cell C)) × (post : List (Cell C)) × (c ∷ cs ≡ pre ++ post) × (visible K pre ≡ i)
       step rec (inl z) lt = ([], c ∷ cs, refl, sym z)
       step rec (inr ne) (inl lt) =
-          let wrong : true ≡ false = sym (within i (shown K c.face) _ (omega arith) lt) ∙ out in
-          let z : ◌≡◌ {A = ℕ} 0 1 = cc in
-          absurd (omega arith)
+          absurd (true≢false (sym (within i (shown K c.face) _ (omega arith) lt) ∙ out))
       step rec (inr ne) (inr ge) =
           let r = rec (sym (past i (shown K c.face) _ (omega arith)) ∙ out) (omega arith) in
           let e : visible K r.0 ≡ i - shown K c.face = r.3 in

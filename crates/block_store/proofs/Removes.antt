@@ -19,6 +19,7 @@ use Rattle.block_store.specs.Cuts.{one_if, CutBlock, pieces}
 use Rattle.block_store.specs.Gaps.{inside, gap_needs, Gapped, left_of, GapIs, Closed, Opened}
 use Rattle.block_store.specs.Removes.{Removable, RemoveDone}
 use Rattle.block_store.proofs.Shapes as S
+use Rattle.block_store.proofs.Gaps.{closed}
 use Rattle.block_store.proofs.Insides.{inside_zero, inside_past, inside-cut, parted}
 
 halved : (r c : Bool) (a b n m : ℕ) → a + b ≡ n → cond r 0 (cond c a 0) + (cond r 0 (cond c b 0) + m) ≡ cond r 0 (cond c n 0) + m
@@ -64,15 +65,6 @@ module _ {C : Type 0} (K : Ghosts C) where
   gapped_open {i} {j} {cs} {pre} {post} g =
       ap (λ n. inside K n (pre ++ post)) (let e = g.before in let q : i ≡ visible K pre + 0 = omega arith in q) ∙ inside_past K pre post 0 ∙ inside_zero K post
 
-  abbrev pub closed : {t : List (Block C)} {fronts : List (Option ℕ)} {used limit l i n : ℕ} → Removable K t fronts used limit l i n
-      → {g : Gap} → GapIs K (i + n) (blocks_of t fronts l) g → used + g.needs ≤ length t → Closed K t used g
-  closed {fronts = fronts} {l = l} {i = i} {n = n} w gap room = record {
-    fronts = fronts;
-    list = l;
-    index = i + n;
-    openable = record { words = w.words; shape = w.shape; known = w.known; gap = gap; within = w.within; room = room };
-  }
-
   module _ (kind : Lawful K) {t : List (Block C)} {fronts : List (Option ℕ)} {used limit l i n : ℕ} (w : Removable K t fronts used limit l i n)
       {mid : List (Block C)} {last : Gap} {j : ℕ} (a : Opened K t mid fronts used l (i + n) last j) (mid-shape : Shape K w.words mid j fronts) where
     ne : i ≢ i + n
@@ -84,29 +76,16 @@ module _ {C : Type 0} (K : Ghosts C) where
     mid_visible : visible K (blocks_of mid fronts l) ≡ visible K (blocks_of t fronts l)
     mid_visible = ap (visible K) a.changed.is ∙ gapped_visible kind a.gapped
 
-    pub second_within : i ≤ visible K (blocks_of mid fronts l)
-    second_within = let e = mid_visible in let v = w.within in omega arith
-
-    pub second_room : (first again : Gap) → first.needs ≡ gap_needs K i (blocks_of t fronts l) → last.needs ≡ gap_needs K (i + n) (blocks_of t fronts l) → GapIs K i (blocks_of mid fronts l) again
-        → used + (last.needs + first.needs) ≤ limit → length mid ≡ length t → j + again.needs ≤ length mid
-    second_room first again f la gap room long =
-        let e : again.needs ≡ gap_needs K i (blocks_of t fronts l) = gap.needs ∙ mid_needs in
-        let r = a.records in
-        let fits = w.fits in
-        omega arith
-
-    abbrev pub second : (first again : Gap) → first.needs ≡ gap_needs K i (blocks_of t fronts l) → last.needs ≡ gap_needs K (i + n) (blocks_of t fronts l) → GapIs K i (blocks_of mid fronts l) again
-        → used + (last.needs + first.needs) ≤ limit → length mid ≡ length t → Closed K mid j again
-    second first again f la gap room long = record {
-      fronts = fronts;
-      list = l;
-      index = i;
-      openable = record { words = w.words; shape = mid-shape; known = w.known; gap = gap; within = second_within; room = second_room first again f la gap room long };
-    }
+    second : {first again : Gap} → GapIs K i (blocks_of t fronts l) first → GapIs K (i + n) (blocks_of t fronts l) last → GapIs K i (blocks_of mid fronts l) again
+        → used + (last.needs + first.needs) ≤ limit → length mid ≡ length t → (i ≤ visible K (blocks_of mid fronts l)) × (j + again.needs ≤ length mid)
+    second f la gap room long = (
+      (let e = mid_visible in let v = w.within in omega arith),
+      omega (arith, f.needs, la.needs, gap.needs, mid_needs, a.records, w.fits),
+    )
 
     module _ {both : List (Block C)} {again : Gap} {k : ℕ} (b : Opened K mid both fronts j l i again k) (shape : Shape K w.words both k fronts) where
-      pub in_limit : (first : Gap) → first.needs ≡ gap_needs K i (blocks_of t fronts l) → last.needs ≡ gap_needs K (i + n) (blocks_of t fronts l) → used + (last.needs + first.needs) ≤ limit → k ≤ limit
-      in_limit first f la room = let x = a.records in let y = b.records in let z = mid_needs in omega arith
+      in_limit : {first : Gap} → GapIs K i (blocks_of t fronts l) first → GapIs K (i + n) (blocks_of t fronts l) last → used + (last.needs + first.needs) ≤ limit → k ≤ limit
+      in_limit f la room = omega (arith, f.needs, la.needs, mid_needs, a.records, b.records)
 
       abbrev pub edge_gap : (left : Option ℕ) → left ≡ left_of again.place → table.Gap K both (front_of fronts l) left
       edge_gap left e = record {
@@ -217,3 +196,48 @@ module _ {C : Type 0} (K : Ghosts C) where
             among P h f =
                 all_join P b.pre _ (all_front P b.pre (ms ++ ys) h)
                 (all_join P (map (struck_cell K) ms) ys (each P ms (all_front P ms ys (all_back P b.pre (ms ++ ys) h)) f) (all_back P ms ys (all_back P b.pre (ms ++ ys) h)))
+
+  -- Both gaps are opened, the later one first.
+  pub record Two {t : List (Block C)} {fronts : List (Option ℕ)} {used limit l i n : ℕ} (w : Removable K t fronts used limit l i n) (last again : Gap) (mid both : List (Block C)) (j k : ℕ) : Type 0 where
+    pub after_last : Opened K t mid fronts used l (i + n) last j
+    pub mid_shape : Shape K w.words mid j fronts
+    pub before_first : Opened K mid both fronts j l i again k
+    pub shape : Shape K w.words both k fronts
+    pub keeps : (m : ℕ) → Shape K m t used fronts → Shape K m both k fronts
+    pub fits : k ≤ limit
+
+  module _ (kind : Lawful K) {t : List (Block C)} {fronts : List (Option ℕ)} {used limit l i n : ℕ} (w : Removable K t fronts used limit l i n) {first last again : Gap} {mid : List (Block C)} {j : ℕ} where
+    pub second_closed : GapIs K i (blocks_of t fronts l) first → GapIs K (i + n) (blocks_of t fronts l) last → GapIs K i (blocks_of mid fronts l) again
+        → used + (last.needs + first.needs) ≤ limit → length mid ≡ length t
+        → ((x : Closed K t used last) → Opened K t mid x.fronts used x.list x.index last j)
+        → ((x : Closed K t used last) (m : ℕ) → Shape K m t used x.fronts → Shape K m mid j x.fronts)
+        → Closed K mid j again
+    second_closed f la gap room long opened-1 shape-1 =
+        let x : Closed K t used last = closed w.shape w.known la w.within (omega (arith, room, w.fits)) in
+        let mid_shape : Shape K w.words mid j fronts = shape-1 x w.words w.shape in
+        let more = second kind w (opened-1 x) mid_shape f la gap room long in
+        closed mid_shape w.known gap more.0 more.1
+
+    pub two : {both : List (Block C)} {k : ℕ} → GapIs K i (blocks_of t fronts l) first → GapIs K (i + n) (blocks_of t fronts l) last → GapIs K i (blocks_of mid fronts l) again
+        → used + (last.needs + first.needs) ≤ limit → length mid ≡ length t
+        → ((x : Closed K t used last) → Opened K t mid x.fronts used x.list x.index last j)
+        → ((x : Closed K t used last) (m : ℕ) → Shape K m t used x.fronts → Shape K m mid j x.fronts)
+        → ((x : Closed K mid j again) → Opened K mid both x.fronts j x.list x.index again k)
+        → ((x : Closed K mid j again) (m : ℕ) → Shape K m mid j x.fronts → Shape K m both k x.fronts)
+        → Two w last again mid both j k
+    two {both} {k} f la gap room long opened-1 shape-1 opened-2 shape-2 =
+        let x : Closed K t used last = closed w.shape w.known la w.within (omega (arith, room, w.fits)) in
+        let a : Opened K t mid fronts used l (i + n) last j = opened-1 x in
+        let mid_shape : Shape K w.words mid j fronts = shape-1 x w.words w.shape in
+        let more = second kind w a mid_shape f la gap room long in
+        let y : Closed K mid j again = closed mid_shape w.known gap more.0 more.1 in
+        let b : Opened K mid both fronts j l i again k = opened-2 y in
+        let shape : Shape K w.words both k fronts = shape-2 y w.words mid_shape in
+        record {
+          after_last = a;
+          mid_shape = mid_shape;
+          before_first = b;
+          shape = shape;
+          keeps = λ m s. shape-2 y m (shape-1 x m s);
+          fits = in_limit kind w a mid_shape b shape f la room;
+        }

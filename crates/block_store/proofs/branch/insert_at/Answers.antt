@@ -1,4 +1,5 @@
 use Rattle.std.proofs.Common.{◌≡◌, ◌<◌, length, refl, arith, rules}
+use Rattle.block_store.proofs.Gaps.{closed}
 use Rattle.block_store.proofs.Inserts as I
 use Rattle.block_store.proofs.branch.insert_at.Goals as goal
 
@@ -12,24 +13,24 @@ pub find_gap-gap-requires : goal.find_gap-gap-requires
 find_gap-gap-requires g c = record { list = c.args.list; stands = c.requires.shape.stands c.args.list }
 
 pub open_gap-j-requires : goal.open_gap-j-requires
-open_gap-j-requires g c = I.closed c.requires c.find_gap-gap.ensures (omega (arith, c.requires.fits, c.if-limit-used.false))
+open_gap-j-requires g c = closed c.requires.shape c.requires.known c.find_gap-gap.ensures c.requires.within (omega (arith, c.requires.fits, c.if-limit-used.false))
 
 pub put_new-joined-requires : goal.put_new-joined-requires
 put_new-joined-requires g c =
-    let gap = I.closed c.requires c.find_gap-gap.ensures (omega (arith, c.requires.fits, c.if-limit-used.false)) in
+    let gap = closed c.requires.shape c.requires.known c.find_gap-gap.ensures c.requires.within (omega (arith, c.requires.fits, c.if-limit-used.false)) in
     let o = c.open_gap-j.ensures.tables gap in
     let room : c.open_gap-j.result < c.args.limit = omega (arith, o.records, c.find_gap-gap.ensures.needs, c.if-limit-used.false) in
     I.put_here c.requires o (c.open_gap-j.ensures.shape gap c.requires.words c.requires.shape) room (omega arith) c.left.result c.left.ensures
 
 pub overflow_add-result : goal.overflow_add-result
 overflow_add-result g c =
-    let o = c.open_gap-j.ensures.tables (I.closed c.requires c.find_gap-gap.ensures (omega (arith, c.requires.fits, c.if-limit-used.false))) in
+    let o = c.open_gap-j.ensures.tables (closed c.requires.shape c.requires.known c.find_gap-gap.ensures c.requires.within (omega (arith, c.requires.fits, c.if-limit-used.false))) in
     let room : c.open_gap-j.result < c.args.limit = omega (arith, o.records, c.find_gap-gap.ensures.needs, c.if-limit-used.false) in
     search rules
 
 pub returns : goal.returns
 returns g c =
-    let gap = I.closed c.requires c.find_gap-gap.ensures (omega (arith, c.requires.fits, c.if-limit-used.false)) in
+    let gap = closed c.requires.shape c.requires.known c.find_gap-gap.ensures c.requires.within (omega (arith, c.requires.fits, c.if-limit-used.false)) in
     let o = c.open_gap-j.ensures.tables gap in
     let shape = c.open_gap-j.ensures.shape gap c.requires.words c.requires.shape in
     let room : c.open_gap-j.result < c.args.limit = omega (arith, o.records, c.find_gap-gap.ensures.needs, c.if-limit-used.false) in
