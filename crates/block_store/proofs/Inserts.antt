@@ -1,5 +1,5 @@
 -- A new block, put into a gap that is open.
-use Rattle.std.proofs.Common.{◌≡◌, ℕ, ◌+◌, ◌<◌, ◌≤◌, false, ◌&&◌, ◌||◌, List, ◌∷◌, ◌++◌, length, set, None, Option, sym, refl, ap, ◌∙◌, subst, ap₂, arith, length-append, length-set}
+use Rattle.std.proofs.Common.{◌≡◌, ℕ, ◌+◌, ◌-◌, ◌<◌, ◌≤◌, false, ◌&&◌, ◌||◌, List, ◌∷◌, ◌++◌, length, set, None, Option, sym, refl, ap, ◌∙◌, subst, ap₂, arith, length-append, length-set}
 use Rattle.std.proofs.lemmas.List.{get_or-set_same, get_or-set_other}
 use Rattle.std.specs.Option.{option_map}
 use Rattle.std.specs.List.{AllByRecursion}
@@ -20,9 +20,10 @@ use Rattle.table.proofs.Computed.{cells_of}
 use Rattle.table.proofs.Afters.{within_all}
 use Rattle.block_store.specs.declared.gap.Gap as found
 use Rattle.block_store.specs.Lists.{front_of, blocks_of, Good, Shape, Changed}
-use Rattle.block_store.specs.Gaps.{left_of, Opened}
+use Rattle.block_store.specs.Gaps.{left_of, GapIs, Closed, Opened}
 use Rattle.block_store.specs.Inserts.{new_face, Joins, Puttable, NewBlock, Insertable, InsertDone}
 use Rattle.block_store.proofs.Shapes as S
+use Rattle.block_store.proofs.Gaps.{closed}
 
 module _ {C : Type 0} where
   module _ {K : Ghosts C} {t : List (Block C)} {l : ℕ} {start left : Option ℕ} {j : ℕ} (w : Puttable K t l start left j) where
@@ -57,6 +58,17 @@ module _ {C : Type 0} where
         now_cells = p.now_cells ∙ ap₂ (λ (o q : Option Id). w.pre ++ cell j (record { id = id; origin = o; right_origin = q; removed = false; links = r; content = x }) ∷ w.post) la.id rb.id;
         others = p.others;
       }
+
+  -- What an opening of the gap leaves, and that a record is free then.
+  module _ {K : Ghosts C} {t : List (Block C)} {fronts : List (Option ℕ)} {used limit l i : ℕ} {id : Id} {x : C} (w : Insertable K t fronts used limit l i id x) {g : found.Gap} where
+    abbrev pub shut : GapIs K i (blocks_of t fronts l) g → g.needs < limit - used → Closed K t used g
+    shut gap free = closed w.shape w.known gap w.within (omega (arith, w.fits, free))
+
+    pub now_open : {mid : List (Block C)} {j : ℕ} (gap : GapIs K i (blocks_of t fronts l) g) → g.needs < limit - used → ((y : Closed K t used g) → Opened K t mid y.fronts used y.list y.index g j)
+        → Opened K t mid fronts used l i g j × (j < limit)
+    now_open gap free opens =
+        let o = opens (shut gap free) in
+        (o, omega (arith, o.records, gap.needs, free))
 
   -- Once the gap is open, in the first free record.
   module _ {K : Ghosts C} {t : List (Block C)} {fronts : List (Option ℕ)} {used limit l i : ℕ} {id : Id} {x : C} (w : Insertable K t fronts used limit l i id x)

@@ -14,6 +14,7 @@ use table::splice::split;
 #[derive(Clone, Copy)]
 pub struct Gap {
     pub place: Place,
+    // A count, 0 or 1, and no flag: a removal adds up those of its two gaps.
     pub needs: usize,
 }
 

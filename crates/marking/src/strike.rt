@@ -13,6 +13,7 @@ pub fn strike<C: Content>(blocks: &mut [Block<C>], from: Option<usize>, count: u
     let mut left = count;
     let mut links = 0;
     let mut cur = from;
+    // A cursor and no iterator, which would hold the table that is written here.
     while left > 0
         && let Some(i) = cur
     {

@@ -7,6 +7,7 @@ use content::content::Content;
 use source::id::Id;
 
 /// A record of the table: a run of ids of one client, with the content that holds one unit for each of them.
+// Neighbours are places in one slice that the caller lends: nothing is allocated, so a list owns no node.
 #[derive(Clone, Copy)]
 pub struct Block<C> {
     /// Its first id.
