@@ -1,14 +1,11 @@
 -- A block put after another, which may get a new face too.
-use Rattle.std.proofs.Common.{◌≡◌, ℕ, ◌<◌, ◌≢◌, List, [], ◌∷◌, ◌++◌, length, set, Some, None, Option, sym, refl, ap, ◌∙◌, subst, ap₂, length-set}
+use Rattle.std.proofs.Common.{◌≡◌, ℕ, ◌<◌, ◌≢◌, List, [], ◌∷◌, ◌++◌, length, set, Some, None, Option, sym, refl, ap, ◌∙◌, subst, length-set}
 use Rattle.std.specs.List.{AllByRecursion}
 use Rattle.table.specs.declared.block.Block.{Block}
 use Rattle.table.specs.Cells.{Face, Cell, cell, block, Holds, front, last, Seg, Path, Apart}
 use Rattle.table.specs.Cuts.{relinked, put_after}
 use Rattle.table.specs.Puts.{Within, Relinks}
-use Rattle.table.proofs.Paths.{none_some, some_some, holds_other, holds_same, holds_unique, all_front, all_back, seg_join, seg_front, seg_back, write_apart, lists_apart, path_apart, path_avoids}
-
-abbrev with_left : {C : Type 0} → Option ℕ → Block C → Block C
-with_left p b = record { id = b.id; list = b.list; left = p; right = b.right; origin = b.origin; right_origin = b.right_origin; removed = b.removed; links = b.links; content = b.content }
+use Rattle.table.proofs.Paths.{holds_other, holds_same, all_front, all_back, seg_join, seg_front, seg_back, write_apart, lists_apart, path_apart, path_avoids}
 
 pub within_all : {X : Type 0} (t u : List X) (n : Option ℕ) → length u ≡ length t → ((m : ℕ) → n ≡ Some m → m < length t) → Within u n
 within_all t u None e h = tt
@@ -31,15 +28,6 @@ module _ {C : Type 0} where
   pub relinked_seg : (t : List (Block C)) (l m : ℕ) (p : Option ℕ) (xs : List (Cell C)) (q : Option ℕ) (ys : List (Cell C)) (n : Option ℕ) → Seg t m q ys n → AllByRecursion (λ x. Apart x.at ys) xs → Seg (relinked t l p xs) m q ys n
   relinked_seg t l m p [] q ys n s a = s
   relinked_seg t l m p (x ∷ xs) q ys n s a = write_apart t m q ys n x.at (block l p (front xs) x.face) s a.0
-
-  -- What the code writes for it.
-  pub relinked_some : (t : List (Block C)) (l : ℕ) (p q : Option ℕ) (xs : List (Cell C)) (n : ℕ) (b : Block C) → Path t l q xs → front xs ≡ Some n → Holds t n b → set t n (with_left p b) ≡ relinked t l p xs
-  relinked_some t l p q [] n b s e h = absurd (none_some n e)
-  relinked_some t l p q (x ∷ xs) n b s e h =
-      let was : Block C = block l q (front xs) x.face in
-      let at : x.at ≡ n = some_some x.at n e in
-      let same : was ≡ b = holds_unique t n was b (subst (λ z. Holds t z was) at s.0) h in
-      sym (ap₂ (λ z y. set t z (with_left p y)) at same)
 
   pub front_kept : (xs : List (Cell C)) (i : ℕ) (f g : Face C) (ys zs : List (Cell C)) → front (xs ++ cell i f ∷ ys) ≡ front (xs ++ cell i g ∷ zs)
   front_kept [] i f g ys zs = refl

@@ -1,6 +1,5 @@
 -- What is left of a list, block by block.
-use Rattle.std.proofs.Common.{◌≡◌, ℕ, ◌+◌, ◌<◌, Bool, true, false, cond, List, [], ◌∷◌, ◌++◌, length, get_or, Some, None, Option, sym, refl, ap, ◌∙◌, subst, ap₂, append_assoc, arith}
-use Rattle.std.proofs.lemmas.List.{append-nil}
+use Rattle.std.proofs.Common.{◌≡◌, ℕ, ◌+◌, ◌<◌, Bool, true, false, cond, List, [], ◌∷◌, ◌++◌, length, get_or, Some, Option, sym, refl, ap, ◌∙◌, subst, ap₂, append_assoc, arith}
 use Rattle.content.specs.declared.content.Content.{Ghosts}
 use Rattle.table.specs.declared.block.Block.{Block}
 use Rattle.table.specs.Cells.{Face, Cell, cell, block, face_of, front, Path, cells}
@@ -19,14 +18,7 @@ pub opened : {C : Type 0} (i : ℕ) (xs : List (Cell C)) → front xs ≡ Some i
 opened i [] e = absurd (none_some i e)
 opened i (x ∷ xs) e = record { face = x.face; rest = xs; parts = ap (λ n. cell n x.face ∷ xs) (some_some x.at i e) }
 
-no_cells : {C : Type 0} (xs : List (Cell C)) → front xs ≡ None → xs ≡ []
-no_cells [] e = refl
-no_cells (x ∷ xs) e = absurd (none_some x.at (sym e))
-
 module _ {C : Type 0} {t : List (Block C)} {next : Option ℕ} (w : Leads t next) where
-  pub leads_end : next ≡ None → cells t next ≡ []
-  leads_end e = no_cells (cells t next) (w.starts ∙ e)
-
   module _ {i : ℕ} (e : next ≡ Some i) where
     turn : Opened i (cells t next)
     turn = opened i (cells t next) (w.starts ∙ e)
@@ -66,9 +58,6 @@ pub record Passed {C : Type 0} (cs rest : List (Cell C)) : Type 0 where
 module _ {C : Type 0} {cs rest : List (Cell C)} where
   abbrev pub passed_none : rest ≡ cs → Passed cs rest
   passed_none e = record { pre = []; parts = sym e }
-
-  pub passed_all : (p : Passed cs rest) → rest ≡ [] → cs ≡ p.pre
-  passed_all p e = p.parts ∙ ap (λ xs. p.pre ++ xs) e ∙ append-nil p.pre
 
   module _ (p : Passed cs rest) {c : Cell C} {more : List (Cell C)} (e : rest ≡ c ∷ more) where
     pub passed_parts : cs ≡ p.pre ++ c ∷ more

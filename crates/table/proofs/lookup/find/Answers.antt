@@ -1,6 +1,6 @@
-use Rattle.std.proofs.Common.{ℕ, [], ◌∷◌, subst, sym}
+use Rattle.std.proofs.Common.{ℕ, [], ◌∷◌}
 use Rattle.table.specs.Cells.{face_of}
-use Rattle.table.specs.Lookups.{Has, Lacks}
+use Rattle.table.specs.Lookups.{Has}
 use Rattle.table.proofs.Paths.{all_join}
 use Rattle.table.proofs.Walks as W
 use Rattle.table.proofs.lookup.find.Goals as goal
@@ -26,6 +26,3 @@ loop-i-preserved g c = (
   W.passed_more c.loop-i.invariant.1 c.in-Some.ensures.steps,
   all_join (λ x. (o : ℕ) → Has g.C.Content c.args.id x.face o → ⊥) c.loop-i.invariant.1.pre (_ ∷ []) c.loop-i.invariant.2 (c.in_default.ensures, tt),
 )
-
-pub returns : goal.returns
-returns g c = subst (λ xs. Lacks g.C.Content c.args.id xs) (sym (W.passed_all c.loop-i.invariant.1 c.in-None.ensures.steps.0)) c.loop-i.invariant.2

@@ -1,6 +1,5 @@
-use Rattle.std.proofs.Common.{◌<◌, subst, sym, arith}
+use Rattle.std.proofs.Common.{arith}
 use Rattle.table.specs.Cells.{face_of}
-use Rattle.table.specs.Lookups.{visible}
 use Rattle.table.proofs.Walks as W
 use Rattle.table.proofs.lookup.seek.Goals as goal
 
@@ -31,8 +30,3 @@ loop-i-preserved g c = (
   omega (arith, c.if-left-n.false),
   omega (arith, W.visible_more g.C.Content c.loop-i.invariant.1.pre c.in-Some.i (face_of c.in-Some.b.now), c.shown-n.ensures, c.if-left-n.false, c.loop-i.invariant.3),
 )
-
-pub returns : goal.returns
-returns g c =
-    let none = W.passed_all c.loop-i.invariant.1 c.in-None.ensures.steps.0 in
-    subst (λ xs. visible g.C.Content xs < c.args.index) (sym none) (omega (arith, c.loop-i.invariant.2, c.loop-i.invariant.3))

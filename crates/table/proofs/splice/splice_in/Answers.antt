@@ -15,9 +15,6 @@ offset_bounds-blocks-i-in-Some g c = let lt = S.i_within c.requires c.in-Some.is
 pub bounds-blocks-i-in-Some : goal.bounds-blocks-i-in-Some
 bounds-blocks-i-in-Some g c = simp length-set (S.i_within c.requires c.in-Some.is)
 
-pub relink-requires : goal.relink-requires
-relink-requires g c = within_all c.args.blocks.now _ c.args.front.now (simp length-set) (S.first_within c.requires c.in-None.is)
-
 pub relink-requires-in-Some : goal.relink-requires-in-Some
 relink-requires-in-Some g c = within_all c.args.blocks.now _ c.index-blocks-i.result.right (simp length-set) (S.next-within c.requires c.in-Some.is c.index-blocks-i.is)
 

@@ -1,4 +1,4 @@
-use Rattle.std.proofs.Common.{length-set, arith, rules}
+use Rattle.std.proofs.Common.{length-set, rules}
 use Rattle.table.proofs.Afters.{within_all}
 use Rattle.table.proofs.Splits as S
 use Rattle.table.proofs.splice.split.Goals as goal
@@ -9,14 +9,11 @@ offset_bounds-blocks-i g c = let lt = S.i_within c.requires in search rules
 pub bounds-blocks-i : goal.bounds-blocks-i
 bounds-blocks-i g c = S.i_within c.requires
 
-pub cut-fore-requires : goal.cut-fore-requires
-cut-fore-requires g c = record { positive = c.requires.some_left; below = S.below c.requires c.index-blocks-i.is }
+pub cut-fore-requires-clause-below : goal.cut-fore-requires-clause-below
+cut-fore-requires-clause-below g c = S.below c.requires c.index-blocks-i.is
 
 pub id_at-requires : goal.id_at-requires
 id_at-requires g c = S.clocked c.requires c.index-blocks-i.is
-
-pub id_at-requires-2 : goal.id_at-requires-2
-id_at-requires-2 g c = omega (arith, S.clocked c.requires c.index-blocks-i.is)
 
 pub offset_bounds-blocks-i-2 : goal.offset_bounds-blocks-i-2
 offset_bounds-blocks-i-2 g c = let lt = S.i_within c.requires in search rules
