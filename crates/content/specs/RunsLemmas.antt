@@ -1,14 +1,14 @@
 -- Runs of units that lie in words.
 use Rattle.std.specs.Prelude.{◌≡◌, ℕ, zero, suc, ◌+◌, ◌-◌, ◌/◌, ◌%◌, ◌<◌, ◌≤◌, true, false, cond, List, ◌∷◌, ◌++◌, map, length, Some, None, nat_le, nat_lt, slice_index, slice_index_or, refl}
-use Rattle.std.proofs.Common.{sym, ap, ap₂, ◌∙◌, add-zero, zero-add, arith, lt-ltb, le-leb}
-use Rattle.std.proofs.Math.Nat.{div-mul-le_self}
+use Rattle.std.proofs.Common.{sym, ap, ap₂, ◌∙◌, add-zero, zero-add, arith, lit<, lt-ltb, le-leb}
+use Rattle.std.proofs.Math.Nat.{div-mul-le_self, div-one}
 use Rattle.std.proofs.lemmas.Nat.{le-div}
 use Rattle.std.specs.List.{range_with_len}
 use Rattle.std.proofs.lemmas.Bool.Decides.{nat_tests}
 use Rattle.std.proofs.lemmas.List.FromFn.{get_or-map-range_with_len}
-use Rattle.std.proofs.lemmas.List.{get_or_append_left, length-append}
+use Rattle.std.proofs.lemmas.List.{get_or_append_left, get_or_default, length-append}
 use Rattle.content.specs.Meaning.{told}
-use Rattle.content.specs.Runs.{run, run_reach}
+use Rattle.content.specs.Runs.{run, run_reach, word_at, slot, code_unit}
 
 agree : (f g : ℕ → ℕ) (a n : ℕ) → ((i : ℕ) → a ≤ i → i < a + n → f i ≡ g i) → map f (range_with_len a n) ≡ map g (range_with_len a n)
 agree f g a zero h = refl
@@ -67,6 +67,20 @@ module _ (at : List ℕ → ℕ → ℕ) (s : ℕ → ℕ → ℕ) (n : ℕ) (so
       let le = reach_at a b ((b - 1) / n + 1) (length t) i h low high in
       let word = place_word n i b some high in
       slot_steady t u i (omega arith))
+
+-- A word is one unit.
+pub word_lies : (t : List ℕ) (i w : ℕ) → i / 1 < length t → word_at t i ≡ slice_index_or t (i / 1) w
+word_lies t i w lt = ap (λ k. slice_index t k) (sym (div-one i)) ∙ get_or_default t (i / 1) 0 w lt
+
+-- A word is four units of 16 bits.
+pub text_lies : (t : List ℕ) (i w : ℕ) → i / 4 < length t → code_unit t i ≡ slot (slice_index_or t (i / 4) w) (i % 4)
+text_lies t i w lt = ap (λ v. slot v (i % 4)) (get_or_default t (i / 4) 0 w lt)
+
+pub words_steady : (t u : List ℕ) (a b : ℕ) → run_reach a b b ≤ length t → run (word_at (t ++ u)) a b ≡ run (word_at t) a b
+words_steady t u a b h = run_steady word_at (λ w _. w) 1 (lit< tt) word_lies t u a b (rw reach_of_words h)
+
+pub text_steady : (t u : List ℕ) (a b : ℕ) → run_reach a b ((b - 1) / 4 + 1) ≤ length t → run (code_unit (t ++ u)) a b ≡ run (code_unit t) a b
+text_steady t u a b h = run_steady code_unit slot 4 (lit< tt) text_lies t u a b h
 
 -- What a content that fits tells at an offset below its length.
 pub told_here : (m len n k v : ℕ) (us : List ℕ) → m ≤ len → k < n → v ≡ slice_index us k → Some v ≡ told (nat_le m len) n us k

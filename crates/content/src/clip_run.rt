@@ -1,9 +1,7 @@
 // A clip run is consecutive words, each of them a unit.
 ghost use Rattle.content.specs.Runs.{word_at};
-ghost use Rattle.std.specs.Prelude.{◌/◌, slice_index};
-ghost use Rattle.std.proofs.Math.Nat.{div-one};
-ghost use Rattle.std.proofs.lemmas.List.{get_or_default};
-ghost use Rattle.std.proofs.Common.{ap, sym, ◌∙◌, lit<};
+ghost use Rattle.content.specs.RunsLemmas.{word_lies};
+ghost use Rattle.std.proofs.Common.{lit<};
 
 use crate::run::{Run, Slots};
 
@@ -18,7 +16,7 @@ impl Slots<1> for u64 {
 
     ghost some = { lit< tt };
 
-    ghost lies = { λ t i w lt. ap (λ k. slice_index t k) (sym (div-one i)) ∙ get_or_default t (i / 1) 0 w lt };
+    ghost lies = { word_lies };
 
     fn slot(self, _place: u32) -> u64 {
         self

@@ -28,6 +28,7 @@ fn cut_each<C: Content>(content: &C, offsets: &[u32], pieces: &mut [C])
     let mut done = 0;
     for (i, &k) in offsets.iter().enumerate() {
         let (piece, others) = rest.cut(k - done);
+        // Written by its place: of what is written through a zipped `iter_mut` the proof knows nothing.
         pieces[i] = piece;
         rest = others;
         done = k;

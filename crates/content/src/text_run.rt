@@ -1,8 +1,7 @@
 // A text run is consecutive 16-bit units, four to a word, the first in the low bits.
 ghost use Rattle.content.specs.Runs.{slot, code_unit};
-ghost use Rattle.std.specs.Prelude.{◌/◌, ◌%◌};
-ghost use Rattle.std.proofs.lemmas.List.{get_or_default};
-ghost use Rattle.std.proofs.Common.{ap, lit<};
+ghost use Rattle.content.specs.RunsLemmas.{text_lies};
+ghost use Rattle.std.proofs.Common.{lit<};
 
 use crate::run::{Run, Slots};
 
@@ -18,7 +17,7 @@ impl Slots<4> for u64 {
 
     ghost some = { lit< tt };
 
-    ghost lies = { λ t i w lt. ap (λ v. slot v (i % 4)) (get_or_default t (i / 4) 0 w lt) };
+    ghost lies = { text_lies };
 
     fn slot(self, place: u32) -> u64 {
         self >> (16 * (place % 4)) & 0xffff

@@ -57,6 +57,7 @@ impl<'a> Make<&'a [u64]> for ClipRun {
 }
 
 /// A text run from its units.
+// Not one making with the clip runs': the test of the units and how they are packed are of this kind alone.
 impl<'a> Make<&'a [u16]> for TextRun {
     ghost asks = { λ r. record { counts = true; units = r.now; faulty = surrogates r.now; spent = λ _. packed r.now } };
 

@@ -33,6 +33,7 @@ fn make_all<R: Copy, C: Make<R>>(
 {
     let mut n = used;
     for (i, recipe) in recipes.iter().enumerate() {
+        // Written by its place: of what is written through a zipped `iter_mut` the proof knows nothing.
         made[i] = make_one(recipe, words, &mut n);
     }
     n
