@@ -1,20 +1,16 @@
 -- The shape of the lists after one of them has changed.
 use Rattle.std.proofs.Common.{◌≡◌, ℕ, zero, suc, ◌+◌, ◌<◌, ◌≤◌, ◌≢◌, ◌⊎◌, List, [], ◌∷◌, ◌++◌, length, None, Option, sym, refl, ap, ◌∙◌, subst, inl, inr, arith, length-append}
-use Rattle.std.proofs.lemmas.List.{get_or_past}
-use Rattle.std.proofs.lemmas.Bool.{cases_eq, cases_lt}
+use Rattle.std.proofs.lemmas.Bool.{cases_eq}
 use Rattle.std.specs.List.{AllByRecursion}
 use Rattle.content.specs.declared.content.Content.{Ghosts}
 use Rattle.content.specs.Lawful.{Lawful}
 use Rattle.table.specs.declared.block.Block.{Block}
 use Rattle.table.specs.Cells.{Cell, cell, Apart, cells, Stands}
 use Rattle.table.specs.Cuts.{left_piece, right_piece, Cuttable, Cut}
-use Rattle.table.specs.Lookups.{Lacks}
-use Rattle.source.specs.declared.id.Id.{Id}
 use Rattle.table.proofs.Paths.{all_front, all_back, all_join}
 use Rattle.table.proofs.Computed.{cells_of}
 use Rattle.block_store.specs.Lists.{front_of, blocks_of, Good, total, Shape, Changed}
 use Rattle.block_store.specs.Cuts.{CutBlock, pieces}
-use Rattle.block_store.specs.Locates.{Nowhere}
 
 total_same : (f g : ℕ → ℕ) (n : ℕ) → ((m : ℕ) → m < n → g m ≡ f m) → total g n ≡ total f n
 total_same f g zero e = refl
@@ -175,10 +171,3 @@ module _ {C : Type 0} where
           (pieces_good n used laws c (s.good l))
           (let e : length (blocks_of t fronts l) ≡ length (c.pre ++ cell c.place c.face ∷ c.post) = ap length c.parts in
           omega (arith, simp length-append at e, length-append c.pre (cell c.place (left_piece K c.offset c.face) ∷ cell used (right_piece K c.offset c.face) ∷ c.post)))
-
-module _ {C : Type 0} (K : Ghosts C) (id : Id) (t : List (Block C)) (fronts : List (Option ℕ)) where
-  pub nowhere_past : ((m : ℕ) → m < length fronts → Lacks K id (blocks_of t fronts m)) → Nowhere K id t fronts
-  nowhere_past below m = elim (cases_lt m (length fronts)) [
-    | inl lt ↦ below m lt
-    | inr ge ↦ subst (λ (cs : List (Cell C)). Lacks K id cs) (sym (ap (cells t) (get_or_past fronts m None (omega arith)) ∙ no_cells t)) tt
-  ]

@@ -8,12 +8,6 @@ returns-then-limit-used g c = record {
   shape = λ n s fits. s;
 }
 
-pub find_gap-gap-requires : goal.find_gap-gap-requires
-find_gap-gap-requires g c = record { list = c.args.list; stands = c.requires.shape.stands c.args.list }
-
-pub open_gap-j-requires : goal.open_gap-j-requires
-open_gap-j-requires g c = I.shut c.requires c.find_gap-gap.ensures c.if-limit-used.false
-
 pub put_new-joined-requires : goal.put_new-joined-requires
 put_new-joined-requires g c =
     let o = I.now_open c.requires c.find_gap-gap.ensures c.if-limit-used.false c.open_gap-j.ensures.tables in

@@ -14,15 +14,6 @@ returns-then-limit-used g c = record {
   shape = λ n s. s;
 }
 
-pub find_gap-first-requires : goal.find_gap-first-requires
-find_gap-first-requires g c = record { list = c.args.l; stands = c.requires.shape.stands c.args.l }
-
-pub find_gap-last-requires : goal.find_gap-last-requires
-find_gap-last-requires g c = record { list = c.args.l; stands = c.requires.shape.stands c.args.l }
-
-pub open_gap-j-requires : goal.open_gap-j-requires
-open_gap-j-requires g c = closed c.requires.shape c.requires.known c.find_gap-last.ensures c.requires.within (omega (arith, c.requires.fits, c.requires.enough, c.if-limit-used.false))
-
 pub find_gap-first-requires-2 : goal.find_gap-first-requires-2
 find_gap-first-requires-2 g c =
     let upto = closed c.requires.shape c.requires.known c.find_gap-last.ensures c.requires.within (omega (arith, c.requires.fits, c.requires.enough, c.if-limit-used.false)) in
