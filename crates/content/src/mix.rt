@@ -13,6 +13,7 @@ pub enum Mix<A, B> {
     Other(B),
 }
 
+// Five matches: each method asks the part's own method of that name, so that none can stand for another.
 impl<A: Content, B: Content> Content for Mix<A, B> {
     ghost size = { either A.Content.size B.Content.size };
 

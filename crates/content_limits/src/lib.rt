@@ -152,6 +152,7 @@ mod tests {
         count_up(&mut units);
         let mut words = [0; 16_384];
         let m = TextRun::make(&units, &mut words, 0)?;
+        // By its place: a content is no slice.
         for i in 0..65_536u32 {
             assert_eq!(rt; m.content.unit(&words, i), Some(u64::from(i % 0xD800)));
         }

@@ -10,6 +10,7 @@ pub enum NumberField {
 }
 
 impl NumberField {
+    // Two tables, and none of pairs: a caller of the one would take each pair apart.
     /// How many bytes the number may take.
     pub fn max_len(self) -> usize
         ensures { result ≡ max_len self }

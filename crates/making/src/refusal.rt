@@ -20,6 +20,7 @@ pub enum Refusal {
 }
 
 impl Refusal {
+    // A method, and no `From<Refusal> for u8`: where it is called, `number()` says what the byte is, and `into()` would not.
     /// The number that stands for it: 6, 9 or 8.
     pub fn number(&self) -> u8
         ensures { result ≡ refusal_number self.now }

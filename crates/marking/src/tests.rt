@@ -9,6 +9,8 @@ use content::mix::Mix;
 use std::test::Fail;
 use table::block::Block;
 
+// Each test has its list in full: what built it would take as many arguments.
+
 // A block of list 0.
 fn block_of(
     left: Option<usize>,

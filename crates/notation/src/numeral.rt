@@ -39,6 +39,7 @@ pub fn read_numbers(heap: Global, line: &[u8]) -> Result<Option<Vec<u64>>, Alloc
     Ok(Some(numbers))
 }
 
+// A loop of its own: one for both it and `read_numbers` would take an iterator and a closure, and be no shorter.
 /// The same numbers in 16 bits; none where one of them does not fit.
 pub fn shorten(heap: Global, numbers: &[u64]) -> Result<Option<Vec<u16>>, AllocError>
     ensures { IfOk result (λ o. option_map vec_items o ≡ (if all_short numbers.now then Some numbers.now else None)) }

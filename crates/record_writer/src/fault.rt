@@ -13,6 +13,7 @@ pub enum WriteFault {
 }
 
 impl WriteFault {
+    // A method, and no `From<WriteFault> for u8`: where it is called, `number()` says what the byte is, and `into()` would not.
     /// The refusal's number.
     pub fn number(self) -> u8
         ensures { result ≡ write_fault self }

@@ -27,6 +27,7 @@ pub enum ClientRefusal {
 }
 
 impl ClientRefusal {
+    // A method, and no `From<ClientRefusal> for u8`: where it is called, `number()` says what the byte is, and `into()` would not.
     /// The refusal's number.
     pub fn number(self) -> u8
         ensures { result ≡ client_refusal self }

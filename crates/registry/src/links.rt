@@ -20,6 +20,7 @@ pub struct Link {
 }
 
 /// The live links by number.
+// An array and no `Vec`, since the core has no heap; it is no list with a length, for a free number is a hole.
 #[derive(Clone, Copy)]
 pub struct Links {
     links: [Option<Link>; 64],

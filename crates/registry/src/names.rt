@@ -23,6 +23,7 @@ pub enum OpenRefusal {
 }
 
 impl OpenRefusal {
+    // A method, and no `From<OpenRefusal> for u8`: where it is called, `number()` says what the byte is, and `into()` would not.
     /// The refusal's number.
     pub fn number(self) -> u8
         ensures { result ≡ open_refusal self }

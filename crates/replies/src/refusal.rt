@@ -5,6 +5,7 @@ use notation::text::push_shown;
 use record::fault::{Layer, RecordFault};
 use std::alloc::AllocError;
 
+// By its number, which is all that the script says of a refusal, whatever it refuses.
 /// Appends `refused` and a refusal's number.
 pub fn push_refusal(text: &mut Vec<u8>, number: u8) -> Result<(), AllocError>
     ensures { OnOk result (text.new.items ≡ text.old.items ++ refusal_text number) }

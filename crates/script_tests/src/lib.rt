@@ -21,7 +21,10 @@ mod tests {
         let mut script: &[u8] = b"# a partner's record\ndecode 07040105\n\nwrite -1:5 +1:5";
         let mut text = Vec::new(rt.alloc());
         transcribe(rt.alloc(), &mut script, &mut text)?;
-        assert_eq!(rt; text.as_slice(), b"source -1:5 +1:5 bytes 4\nrecord 07040105\n".as_slice());
+        assert_eq!(rt;
+            text.as_slice(),
+            b"source -1:5 +1:5 bytes 4\nrecord 07040105\n".as_slice()
+        );
         Ok(())
     }
 }

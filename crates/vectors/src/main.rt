@@ -4,6 +4,7 @@
 use std::io;
 use transcript::script::transcribe;
 
+// A program of its own, since a program is run on one stored input.
 fn main(rt: HostRuntime) -> io::Result<()> {
     transcribe(rt.alloc(), &mut rt.stdin(), &mut rt.stdout())
 }
