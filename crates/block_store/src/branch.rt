@@ -49,6 +49,7 @@ fn put_new<C: Content>(
     joined
 }
 
+// Tables that are lent for one call, and no struct that holds them: tried for `cut_at`, it added three clauses to each call.
 /// Inserts a content into a list, directly after `index` visible units; nothing, and nothing is changed, if too few records are free.
 pub fn insert_at<C: Content>(
     blocks: &mut [Block<C>],
@@ -83,6 +84,7 @@ pub fn insert_at<C: Content>(
     })
 }
 
+// Tables that are lent for one call, and no struct that holds them: tried for `cut_at`, it added three clauses to each call.
 /// Removes `count` visible units from `index` on, and answers the union of the link sets of their blocks; nothing, and nothing is
 /// changed, if too few records are free. Blocks are cut after the last unit and before the first.
 pub fn remove_at<C: Content>(

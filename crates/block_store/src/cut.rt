@@ -35,6 +35,7 @@ pub fn locate<C: Content>(
     None
 }
 
+// Tables that are lent for one call, and no struct that holds them: tried for `cut_at`, it added three clauses to each call.
 /// Makes an id the first of a block, and tells how many records are then in use; a right piece takes the record `used`.
 pub fn cut_at<C: Content>(
     blocks: &mut [Block<C>],

@@ -39,6 +39,7 @@ fn cut_each<C: Content>(content: &C, offsets: &[u32], pieces: &mut [C])
 /// Cuts a content at each of the offsets. The units of the pieces, put together, are those of the whole.
 /// Answers no, and writes nothing, if the offsets do not rise strictly inside the content
 /// or `pieces` does not have just one place more than there are offsets.
+// A bool and no Result: there is one refusal, and nothing to tell of it.
 pub fn cut_into_pieces<C: Content>(content: &C, offsets: &[u32], pieces: &mut [C]) -> bool
     ensures answer { result ≡ (rising 0 offsets.now (C.Content.size content.now) && length pieces.old == length offsets.now + 1) }
     ensures written { pieces.new ≡ (if result then cut_up C.Content 0 offsets.now content.now else pieces.old) }

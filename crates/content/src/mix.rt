@@ -5,7 +5,7 @@ ghost use Rattle.std.proofs.Common.{rules};
 
 use crate::content::Content;
 
-// No `Result`, though of its shape: its names would say that a content of the other kind is an error.
+// No `Result` and no `Either`, though of their shape: the one would call a content of the other kind an error, and the other says no more.
 /// A content of the one kind or of the other.
 #[derive(Clone, Copy, PartialEq, Eq, Debug)]
 pub enum Mix<A, B> {

@@ -25,6 +25,7 @@ mod tests {
     ) -> Result<u32, u8> {
         let mut words = [0; 65_540];
         if n > units.len() || size > words.len() {
+            // No refusal's number: a case would ask for more than there is.
             return Err(0);
         }
         C::make(&units[..n], &mut words[..size], used)

@@ -35,6 +35,7 @@ pub struct NumberFault {
 pub struct NoRoom;
 
 impl NoRoom {
+    // A method, and no `From<NoRoom> for u8`: where it is called, `number()` says what the byte is, and `into()` would not.
     /// The refusal's number.
     pub fn number(self) -> u8
         ensures { result ≡ no_room }

@@ -34,6 +34,7 @@ fn read_front(bytes: &[u8], field: NumberField) -> Result<(u64, usize), NumberCa
     Err(NumberCause::Ends)
 }
 
+// A place beside the bytes, since it may lie past their end, which a slice that begins there could not say.
 /// Reads a number from a place on, within what its field allows: its value, and how many bytes it took.
 pub fn read_number(bytes: &[u8], at: usize, field: NumberField) -> Result<(u64, usize), NumberFault>
     ensures value { result ≡ number_at field bytes.now at }

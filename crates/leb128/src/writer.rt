@@ -60,6 +60,7 @@ fn put_number(part: &mut [u8], value: u64)
     }
 }
 
+// A place beside the bytes, since it may lie past their end, which a slice that begins there could not say.
 /// Writes the shortest form of a number into a buffer from a place on, and says how many bytes it took; or nothing, where it does not fit.
 pub fn write_number(buf: &mut [u8], at: usize, value: u64) -> Result<usize, NoRoom>
     ensures { MatchResult result (λ n. (n ≡ length (uleb value)) × (at + n ≤ length buf.old) × (buf.new ≡ written buf.old at (uleb value))) (λ _. (length buf.old < at + length (uleb value)) × (buf.new ≡ buf.old)) }

@@ -76,7 +76,7 @@ pub(crate) fn read_named<'a>(
 ) -> Result<Option<Call<'a>>, AllocError>
     ensures { IfOk result (λ o. option_map call_of o ≡ named_in name.now rest.now) }
 {
-    // An arm `b"write"` of a `match` gives a proof each byte and no equation of the words: such arms stayed open.
+    // Tried as a `match` on `b".."`, also with std's `text_from_reads`: the arms stayed open.
     if is_word(name, b"write") {
         Ok(read_write(rest))
     } else if is_word(name, b"decode") {

@@ -83,6 +83,7 @@ impl<R, S, A: Make<R>, B: Make<S>> Make<Mix<R, S>> for Mix<A, B> {
     ghost asks = { either A.Make.asks B.Make.asks };
 
     fn make(recipe: Mix<R, S>, words: &mut [u64], used: u32) -> Result<Made<Mix<A, B>>, Refusal> {
+        // Two arms: the kinds are made by functions of two types.
         match recipe {
             Mix::One(r) => {
                 let Made { content, used } = A::make(r, words, used)?;

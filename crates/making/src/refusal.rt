@@ -35,6 +35,7 @@ impl Refusal {
 
 /// Whether `units` units, with a `faulty` one among them or none, that take `words` words, may be made
 /// in a table of `len` words of which `used` are used: the length is tested first, then the units, then the room.
+// A length and a count, and no table: nothing is read of it, and what has no words is judged over none.
 // A flag for the units, and no check that answers by itself: theirs is the test between the other two.
 pub fn judge(units: usize, faulty: bool, words: usize, len: usize, used: u32) -> Result<(), Refusal>
     ensures { refused result ≡ verdict units faulty words len used }

@@ -4,6 +4,7 @@ ghost use Rattle.notation.specs.Hex.{is_hex_digit, nibble, is_hex, bytes_in, dig
 
 use std::alloc::{AllocError, Global};
 
+// 0 and no None: who reads digits has tested first that they are such (`is_hex`).
 /// What a hexadecimal digit says, and 0 of another byte.
 fn nibble_of(c: u8) -> u8
     ensures value { result ≡ nibble c }
@@ -54,7 +55,7 @@ fn hex_digit(n: u8) -> u8
 pub fn push_hex(text: &mut Vec<u8>, bytes: &[u8]) -> Result<(), AllocError>
     ensures { OnOk result (text.new.items ≡ text.old.items ++ hex_of bytes.now) }
 {
-    // `{byte:02X}` would make and let go a `String` for each byte.
+    // Tried as a `Display` by `{byte:02X}`: in its loop a proof does not know that a byte is below 256, and stayed open.
     for byte in bytes {
         text.extend_from_slice(&[hex_digit(*byte / 16), hex_digit(*byte % 16)])?;
     }

@@ -6,6 +6,7 @@ use crate::text::push_shown;
 use crate::words::Words;
 use std::alloc::{AllocError, Global};
 
+// Not `parse`, which takes a sign too.
 /// The number that a word of decimal digits says; none where it has another byte, or none, or the number takes more than 64 bits.
 pub fn read_number(word: &[u8]) -> Option<u64>
     ensures { result ≡ number_in word.now }

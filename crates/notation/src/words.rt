@@ -49,6 +49,7 @@ impl<'a> Iterator for Words<'a> {
     }
 }
 
+// A name for `==`, so that those who tell words apart cite one clause.
 /// Whether a word is just these bytes.
 pub fn is_word(word: &[u8], bytes: &[u8]) -> bool
     ensures { result ≡ bytes_eq word.now bytes.now }

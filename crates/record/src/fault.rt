@@ -52,6 +52,7 @@ pub enum Layer {
 }
 
 impl RecordFault {
+    // A method, and no `From<RecordFault> for u8`: where it is called, `number()` says what the byte is, and `into()` would not.
     /// The refusal's number.
     pub fn number(self) -> u8
         ensures { result ≡ record_number self }

@@ -8,6 +8,7 @@ use crate::writer::encode_weak_link;
 use record::reader::decode_weak_link;
 use source::weak::LinkSource;
 
+// A place beside the bytes, since it may lie past their end, which a slice that begins there could not say.
 /// Writes a source into a buffer from a place on, and reads it from there: that very source, and as many bytes as were written.
 pub fn write_and_read<'b>(
     source: &LinkSource<'_>,

@@ -37,6 +37,7 @@ fn check_client(scope: IndexScope<'_>) -> Result<(), WriteFault>
     }
 }
 
+// A place beside the bytes, since it may lie past their end, which a slice that begins there could not say.
 /// Writes a source as a weak-link record into a buffer from a place on, and says how many bytes it took; or why not, and then nothing.
 ///
 /// What is written is a form of the source's record, so the reader gives the source back.

@@ -3,6 +3,7 @@ ghost use Rattle.registry.specs.Places.{place_by};
 ghost use Rattle.registry.specs.Clients.{client_refusal, clients_of, is_client, count_in, CountStands, admitted, clock_of, Crediting, Credit};
 
 use crate::fixed_list::FixedList;
+use leb128::field::NumberField;
 
 /// A client and how many units it has inserted, which is its next clock.
 #[derive(Clone, Copy)]
@@ -75,7 +76,7 @@ impl Clients {
     pub fn admit(&self, client: u64) -> Result<(), ClientRefusal>
         ensures { result ≡ admitted client (clients_of self.now) }
     {
-        if client >= 0x20_0000_0000_0000 {
+        if client >= NumberField::Client.limit() {
             return Err(ClientRefusal::Large);
         }
         if self.place_of(client).is_none() && self.clients.is_full() {

@@ -33,9 +33,9 @@ pub fn push_block(
 
 /// An origin: its id, or a dot where there is none.
 #[derive(Clone, Copy)]
-struct Anchor(Option<Id>);
+struct Origin(Option<Id>);
 
-impl fmt::Display for Anchor {
+impl fmt::Display for Origin {
     ghost output = { λ a. Some (anchor_text (option_map id_of a.0)) };
 
     fn fmt<W: fmt::Write>(&self, f: &mut fmt::Formatter<W>) -> fmt::Result {
@@ -55,7 +55,7 @@ pub fn push_origin(
 ) -> Result<(), AllocError>
     ensures { OnOk result (text.new.items ≡ text.old.items ++ origin_text (id_of first) (option_map id_of origin) (option_map id_of right)) }
 {
-    let left = Anchor(origin);
-    let right = Anchor(right);
+    let left = Origin(origin);
+    let right = Origin(right);
     push_shown(text, &format_args!(" {first}<{left}>{right}"))
 }

@@ -60,7 +60,7 @@ pub fn push_id(text: &mut Vec<u8>, id: Id) -> Result<(), AllocError>
     push_shown(text, &id)
 }
 
-// A root's name is any bytes, so a side is no text that `Display` could write.
+// A root's name is any bytes, so neither a scope nor a side nor a source is text that `Display` could write.
 fn push_scope(text: &mut Vec<u8>, scope: IndexScope<'_>) -> Result<(), AllocError>
     ensures { OnOk result (text.new.items ≡ text.old.items ++ scope_text (scope_of scope.entry)) }
 {

@@ -24,6 +24,7 @@ pub struct Block<C> {
     pub right_origin: Option<Id>,
     /// Whether its units are removed.
     pub removed: bool,
+    // A number and no type of its own: sets are joined, and their ones counted, as numbers are.
     /// Its link set: bit n stands for link n.
     pub links: u64,
     /// What holds its units.

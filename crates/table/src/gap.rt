@@ -7,6 +7,7 @@ use crate::block::Block;
 use content::content::Content;
 use source::id::Id;
 
+// The links stand beside the id and not in one Option with it: at an end of the list there are none, and that is a link set too.
 /// What stands left of a gap, and which record stands right of it.
 #[derive(Clone, Copy)]
 pub struct LeftEdge {

@@ -13,6 +13,7 @@ use replies::refusal::push_refusal;
 use spelling::wanted::Wanted;
 use std::alloc::AllocError;
 
+// A number and no enum: of the script's own refusals this is the only one.
 /// The refusal of an offset at which nothing can be cut.
 const UNCUT: u8 = 10;
 
@@ -23,9 +24,7 @@ fn push_units<C: Content>(text: &mut Vec<u8>, content: &C, words: &[u64]) -> Res
 {
     // A content is no slice: it gives each unit by its place, out of the words.
     for k in 0..content.len() {
-        let Some(unit) = content.unit(words, k) else {
-            unreachable!();
-        };
+        let unit = content.unit(words, k).unwrap();
         push_shown(text, &format_args!(" {unit}"))?;
     }
     Ok(())
