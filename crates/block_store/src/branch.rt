@@ -66,6 +66,7 @@ pub fn insert_at<C: Content>(
     ensures tables { InsertIs C.Content links.now blocks.old blocks.new fronts.old fronts.new used limit list index id content result }
     ensures shape { (n : ℕ) → Shape C.Content n blocks.old used fronts.old → C.Content.reach content ≤ n → Shape C.Content n blocks.new (in_use used result) fronts.new }
 {
+    // `as`, since of `usize::from` a proof makes a second number: tried, and an answer stayed open.
     let l = list as usize;
     let gap = find_gap(blocks, fronts[l], index);
     if limit - used <= gap.needs {

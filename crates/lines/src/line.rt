@@ -60,7 +60,7 @@ fn read_open<'a>(rest: &'a [u8]) -> &'a [u8]
 fn read_plain<'a>(name: &[u8], rest: &'a [u8]) -> Option<Line<'a>>
     ensures { option_map line_of result ≡ plain_in name.now rest.now }
 {
-    // Tried as a `match` on `b".."`, also with std's `text_from_reads`: the arms stayed open.
+    // No `match` on `b".."`: tried in `lines`' `read_named`, also with std's `text_from_reads`, and its arms stayed open.
     if is_word(name, b"open") {
         Some(Line::Open(read_open(rest)))
     } else if is_word(name, b"document") {
@@ -89,7 +89,7 @@ pub fn read_line<'a>(heap: Global, line: &'a [u8]) -> Result<Option<Line<'a>>, A
     ensures { IfOk result (λ o. option_map line_of o ≡ line_in line.now) }
 {
     let (name, rest) = next_word(line);
-    // Tried as a `match` on `b".."`, also with std's `text_from_reads`: the arms stayed open.
+    // No `match` on `b".."`: tried in `lines`' `read_named`, also with std's `text_from_reads`, and its arms stayed open.
     if is_word(name, b"make") {
         return read_make(heap, rest);
     }

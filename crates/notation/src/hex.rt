@@ -55,7 +55,7 @@ fn hex_digit(n: u8) -> u8
 pub fn push_hex(text: &mut Vec<u8>, bytes: &[u8]) -> Result<(), AllocError>
     ensures { OnOk result (text.new.items ≡ text.old.items ++ hex_of bytes.now) }
 {
-    // Tried as a `Display` by `{byte:02X}`: in its loop a proof does not know that a byte is below 256, and stayed open.
+    // Tried as a `Display` that writes `{byte:02X}` in its loop: the bound that std's lemma on that text asks stayed open there.
     for byte in bytes {
         text.extend_from_slice(&[hex_digit(*byte / 16), hex_digit(*byte % 16)])?;
     }

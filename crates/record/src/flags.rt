@@ -24,7 +24,7 @@ impl Form {
     }
 }
 
-// A function, and no `From<bool> for Assoc`: both are of other crates, so the impl may not stand here.
+// A function, and no `From<bool>`: `Assoc::from(true)` would not say that true is After.
 fn assoc_of(after: bool) -> Assoc
     ensures { sticks_after result ≡ after }
 {

@@ -19,7 +19,7 @@ pub enum Wanted {
 fn wanted_by(heap: Global, name: &[u8], numbers: Vec<u64>) -> Result<Option<Wanted>, AllocError>
     ensures { IfOk result (λ o. option_map wants o ≡ wanted_by name.now numbers.items) }
 {
-    // Tried as a `match` on `b".."`, also with std's `text_from_reads`: the arms stayed open.
+    // No `match` on `b".."`: tried in `lines`' `read_named`, also with std's `text_from_reads`, and its arms stayed open.
     if is_word(name, b"clips") {
         return Ok(Some(Wanted::Clips(numbers)));
     }

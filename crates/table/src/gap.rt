@@ -19,6 +19,7 @@ pub struct LeftEdge {
     pub right: Option<usize>,
 }
 
+// The links beside the id, as in `LeftEdge`.
 /// What stands right of a gap.
 #[derive(Clone, Copy)]
 pub struct RightEdge {
