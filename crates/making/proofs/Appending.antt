@@ -1,7 +1,7 @@
 -- What a making is tested for, and words appended to the used ones.
-use Rattle.std.proofs.Common.{◌≡◌, ℕ, ◌+◌, ◌-◌, ◌<◌, ◌≤◌, Bool, false, List, [], ◌++◌, length, take, drop, replicate, None, sym, ap, ap₂, ◌∙◌, add-zero, arith}
+use Rattle.std.proofs.Common.{◌≡◌, ℕ, ◌+◌, ◌-◌, ◌<◌, ◌≤◌, Bool, false, List, ◌++◌, length, take, drop, None, sym, ap, ap₂, ◌∙◌, arith}
 use borrow.Rule.Slice.PartMut.{put_mid}
-use Rattle.std.proofs.lemmas.List.{drop-drop, take-append-drop, length-take-le, take_at, append_assoc, length-append, length-replicate}
+use Rattle.std.proofs.lemmas.List.{drop-drop, length-take-le, take_at, append_assoc, length-append}
 use Rattle.std.proofs.lemmas.Bool.Decides.{nat_tests}
 use Rattle.making.specs.Verdicts.{free, verdict}
 use Rattle.making.specs.Recipes.{appended}
@@ -9,13 +9,6 @@ use Rattle.making.specs.Recipes.{appended}
 -- What an accepted making was tested for.
 pub accepted : (n : ℕ) (faulty : Bool) (m len used : ℕ) → None ≡ verdict n faulty m len used → (0 < n) × (n ≤ 65536) × (faulty ≡ false) × (m ≤ free len used)
 accepted n faulty m len used is = grind (arith, nat_tests)
-
--- A unit that comes n times is n units.
-pub verdict_replicate : (n u len used : ℕ) → verdict n false 0 len used ≡ verdict (length (replicate n u)) false 0 len used
-verdict_replicate n u len used = ap (λ k. verdict k false 0 len used) (sym (length-replicate n u))
-
-pub appended-none : (ws : List ℕ) (used : ℕ) → ws ≡ appended ws used []
-appended-none ws used = sym (ap (λ n. take used ws ++ drop n ws) (add-zero used) ∙ take-append-drop used ws)
 
 -- A table whose places from the used ones on were written with more.
 pub written : (ws more new : List ℕ) (used n : ℕ) → new ≡ more → n ≡ length more → put_mid used (used + n - used) ws new ≡ appended ws used more

@@ -1,14 +1,10 @@
-use Rattle.std.proofs.Common.{◌≡◌, ℕ, zero, suc, ◌+◌, ◌<◌, ◌≤◌, true, cond, leb, List, [], ◌∷◌, ◌++◌, length, take, drop, Some, None, Err, Result, refl, arith}
+use Rattle.std.proofs.Common.{◌≡◌, ℕ, zero, suc, ◌+◌, ◌≤◌, true, cond, leb, List, [], ◌∷◌, ◌++◌, length, take, drop, Some, None, Err, Result, refl, arith}
 use Rattle.std.proofs.lemmas.Bool.Decides.{nat_tests}
 use Rattle.record.specs.declared.fault.RecordFault.{RecordFault}
 use Rattle.record.specs.declared.fault.RecordFault.TheVariants.{Own}
 use Rattle.record.specs.declared.fault.RecordCause.TheVariants.{Ends, Name}
 use Rattle.record.specs.Names.{all_printable, name_count}
 use Rattle.record.specs.Decoding.{name_fault, name_here}
-
--- How many bytes a name has.
-pub count_parts : (n : ℕ) → name_count n ≡ true → (0 < n) × (n ≤ 32)
-count_parts n e = (grind (arith, nat_tests), grind (arith, nat_tests))
 
 -- The first fault in a name is a byte that is not printable, or else one that is missing.
 pub name_faults : (n : ℕ) (bs : List ℕ) → name_fault n bs ≡
