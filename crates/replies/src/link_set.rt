@@ -13,7 +13,7 @@ impl fmt::Display for LinkSet {
     ghost output = { λ s. Some (set_text s.0) };
 
     fn fmt<W: fmt::Write>(&self, f: &mut fmt::Formatter<W>) -> fmt::Result {
-        write!(f, "{{")?;
+        f.write_str("{")?;
         let links = self.0;
         let mut separator = "";
         for n in 0..64u64 {
@@ -22,7 +22,7 @@ impl fmt::Display for LinkSet {
                 separator = ",";
             }
         }
-        write!(f, "}}")
+        f.write_str("}")
     }
 }
 
