@@ -29,6 +29,12 @@ module _ {C : Type 0} where
     pub cell-within : i < length t
     cell-within = holds_cell.within
 
+    pub cell-block : (b : Block C) → b ≡ get_or t i b → b ≡ block l (last None pre) (front post) f
+    cell-block b e = holds_unique t i b _ (record { within = cell-within; is = e }) holds_cell
+
+    pub cell_content : (b : Block C) → b ≡ get_or t i b → b.content ≡ f.content
+    cell_content b e = ap (λ (y : Block C). y.content) (cell-block b e)
+
     pub cell-face : (b : Block C) → b ≡ get_or t i b → face_of (get_or t i b) ≡ f
     cell-face b e = ap face_of (holds_unique t i (get_or t i b) _ (record { within = cell-within; is = ap (get_or t i) e }) holds_cell)
 

@@ -76,7 +76,7 @@ module _ {C : Type 0} (K : Ghosts C) where
     mid_visible : visible K (blocks_of mid fronts l) ≡ visible K (blocks_of t fronts l)
     mid_visible = ap (visible K) a.changed.is ∙ gapped_visible kind a.gapped
 
-    second : {first again : Gap} → GapIs K i (blocks_of t fronts l) first → GapIs K (i + n) (blocks_of t fronts l) last → GapIs K i (blocks_of mid fronts l) again
+    pub second : {first again : Gap} → GapIs K i (blocks_of t fronts l) first → GapIs K (i + n) (blocks_of t fronts l) last → GapIs K i (blocks_of mid fronts l) again
         → used + (last.needs + first.needs) ≤ limit → length mid ≡ length t → (i ≤ visible K (blocks_of mid fronts l)) × (j + again.needs ≤ length mid)
     second f la gap room long = (
       (let e = mid_visible in let v = w.within in omega arith),
@@ -84,7 +84,7 @@ module _ {C : Type 0} (K : Ghosts C) where
     )
 
     module _ {both : List (Block C)} {again : Gap} {k : ℕ} (b : Opened K mid both fronts j l i again k) (shape : Shape K w.words both k fronts) where
-      in_limit : {first : Gap} → GapIs K i (blocks_of t fronts l) first → GapIs K (i + n) (blocks_of t fronts l) last → used + (last.needs + first.needs) ≤ limit → k ≤ limit
+      pub in_limit : {first : Gap} → GapIs K i (blocks_of t fronts l) first → GapIs K (i + n) (blocks_of t fronts l) last → used + (last.needs + first.needs) ≤ limit → k ≤ limit
       in_limit f la room = omega (arith, f.needs, la.needs, mid_needs, a.records, b.records)
 
       abbrev pub edge_gap : (left : Option ℕ) → left ≡ left_of again.place → table.Gap K both (front_of fronts l) left

@@ -1,5 +1,5 @@
 -- The shape of the lists after one of them has changed.
-use Rattle.std.proofs.Common.{◌≡◌, ℕ, zero, suc, ◌+◌, ◌<◌, ◌≤◌, ◌≢◌, ◌⊎◌, List, [], ◌∷◌, ◌++◌, length, Option, sym, refl, ap, ◌∙◌, subst, inl, inr, arith, length-append}
+use Rattle.std.proofs.Common.{◌≡◌, ℕ, zero, suc, ◌+◌, ◌<◌, ◌≤◌, ◌≢◌, ◌⊎◌, List, [], ◌∷◌, ◌++◌, length, None, Option, sym, refl, ap, ◌∙◌, subst, inl, inr, arith, length-append}
 use Rattle.std.proofs.lemmas.Bool.{cases_eq}
 use Rattle.std.specs.List.{AllByRecursion}
 use Rattle.content.specs.declared.content.Content.{Ghosts}
@@ -8,6 +8,7 @@ use Rattle.table.specs.declared.block.Block.{Block}
 use Rattle.table.specs.Cells.{Cell, cell, Apart, cells, Stands}
 use Rattle.table.specs.Cuts.{left_piece, right_piece, Cuttable, Cut}
 use Rattle.table.proofs.Paths.{all_front, all_back, all_join}
+use Rattle.table.proofs.Computed.{cells_of}
 use Rattle.block_store.specs.Lists.{front_of, blocks_of, Good, total, Shape, Changed}
 use Rattle.block_store.specs.Cuts.{CutBlock, pieces}
 
@@ -45,6 +46,10 @@ all_map P Q [] f a = tt
 all_map P Q (x ∷ xs) f a = (f x a.0, all_map P Q xs f a.1)
 
 module _ {C : Type 0} where
+  -- A list that begins nowhere has no blocks.
+  pub no_cells : (t : List (Block C)) → cells t None ≡ []
+  no_cells t = cells_of t 0 None None [] tt refl
+
   -- A list whose blocks lie below a record does not have that record.
   pub low_apart : (n : ℕ) (cs : List (Cell C)) → AllByRecursion (λ c. c.at < n) cs → Apart n cs
   low_apart n [] a = tt

@@ -102,6 +102,24 @@ module _ {C : Type 0} {mark : Face C → Face C} {t : List (Block C)} {l : ℕ} 
             elsewhere = λ j y apart h. holds_other u j i y v (m.elsewhere j y apart h) (away j apart);
           }
 
+        -- The face is as it is to be already.
+        module _ (same : mark o.face ≡ o.face) where
+          pub keep_path : Path u l None (pre ++ (map (on_face mark) (m.done ++ cell i o.face ∷ []) ++ (o.rest ++ ys)))
+          keep_path =
+              subst (λ (xs : List (Cell C)). Path u l None xs) (regroup (on_face mark) pre m.done (cell i o.face) (o.rest ++ ys))
+              (subst (λ (f : Face C). Path u l None ((pre ++ map (on_face mark) m.done) ++ cell i f ∷ (o.rest ++ ys))) (sym same) turn_path)
+
+          abbrev pub marking_keep : Marking mark t l pre ms ys u b.right
+          marking_keep = record {
+            done = m.done ++ cell i o.face ∷ [];
+            rest = o.rest;
+            parts = next_parts;
+            at_hand = next_at_hand;
+            path = keep_path;
+            others = m.others;
+            elsewhere = m.elsewhere;
+          }
+
     -- No cell is left that has to be changed.
     module _ {start : Option ℕ} (s : Stands t l start) (parts : cells t start ≡ pre ++ (ms ++ ys)) (same : map (on_face mark) m.rest ≡ m.rest) where
       all_marked : map (on_face mark) m.done ++ (m.rest ++ ys) ≡ map (on_face mark) ms ++ ys

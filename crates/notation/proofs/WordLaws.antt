@@ -36,7 +36,7 @@ words_trimmed [] = refl
 words_trimmed (b ∷ bs) = trimmed_by (eqb b 0x20) bs b (words_trimmed bs) refl
 
 -- The words of a line are its first word, if it has one, and those after it.
-words_next : (line : List ℕ) → words_in line ≡ before (first_word line) (words_in (after_word line))
+pub words_next : (line : List ℕ) → words_in line ≡ before (first_word line) (words_in (after_word line))
 words_next line = words_trimmed line ∙ first_word_lem [] (trimmed line)
 
 no_word_by : (t : Bool) (bs : List ℕ) (b : ℕ) → (length (first_word bs) ≡ 0 → words_in bs ≡ []) → eqb b 0x20 ≡ t

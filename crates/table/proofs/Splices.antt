@@ -125,6 +125,9 @@ module _ {C : Type 0} where
       post_path : Path t l None w.post
       post_path = subst (λ xs. Path t l None (xs ++ w.post)) no_pre path
 
+      pub first_within : (n : ℕ) → start ≡ Some n → n < length t
+      first_within n r = front-within t l None w.post n post_path (front_is ∙ r)
+
       post_free : Apart j w.post
       post_free = all_back (λ (c : Cell C). c.at ≢ j) w.pre w.post free
 
