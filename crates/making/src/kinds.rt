@@ -6,6 +6,7 @@ ghost use Rattle.making.specs.Packed.{packed, surrogates};
 use crate::make::{Made, Make};
 use crate::packing::{has_surrogate, pack};
 use crate::refusal::{Refusal, judge};
+use crate::word_table::append;
 use content::clip_run::ClipRun;
 use content::content::Content;
 use content::gap::Gap;
@@ -46,8 +47,7 @@ impl<'a> Make<&'a [u64]> for ClipRun {
     fn make(recipe: &'a [u64], words: &mut [u64], used: u32) -> Result<Made<ClipRun>, Refusal> {
         let n = recipe.len();
         judge(n, false, n, words.len(), used)?;
-        let at = used as usize;
-        words[at..at + n].copy_from_slice(recipe);
+        append(recipe, words, used);
         let to = used + n as u32;
         Ok(Made {
             content: ClipRun { from: used, to },

@@ -5,3 +5,4 @@ pub mod kinds;
 pub mod make;
 pub mod packing;
 pub mod refusal;
+pub mod word_table;
