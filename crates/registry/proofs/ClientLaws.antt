@@ -4,7 +4,7 @@ use Rattle.std.proofs.lemmas.Bool.Decides.{nat_tests}
 use Rattle.law.specs.Plain.{put, with_new}
 use Rattle.registry.specs.declared.clients.Client.{Client}
 use Rattle.registry.specs.Places.{place_by}
-use Rattle.registry.specs.Clients.{is_client, count_in, CountStands, raised, credited}
+use Rattle.registry.specs.Clients.{is_client, count_in, CountStands, raised, credited, Credit}
 
 -- A client's count stands at its place.
 pub count_at : (c : ℕ) (es : List Client) (o : Option ℕ) → o ≡ place_by (is_client c) es → CountStands es o (count_in c es)
@@ -56,3 +56,6 @@ counts_kept c n (e ∷ es) d = step (is_client c e) refl (counts_kept c n es d)
         → count_in d (cond t (raised n e ∷ es) (e ∷ credited c n es)) ≡ cond (eqb d c) (cond t e.count (count_in c es) + n) (count_in d (e ∷ es))
     step true p h = grind (arith, nat_tests)
     step false p h = grind (arith, nat_tests)
+
+pub credit_law : (c n : ℕ) (es : List Client) → Credit c n es
+credit_law c n es = record { order = order_kept c n es; counts = counts_kept c n es }
