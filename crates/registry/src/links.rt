@@ -42,18 +42,31 @@ impl Links {
         Links { links: [None; 64] }
     }
 
-    /// A link set, with those live links added that pass a test.
-    fn with<F: Fn(&Link) -> bool>(&self, set: u64, passes: F) -> u64
-        requires { F.IsAlwaysCallable passes }
-        ensures { (n : ℕ) → (t : Bool) × Tells self.now (FnReturnsAt F.Fn passes) n t × (bit n result ≡ (bit n set || t)) }
+    /// Two link sets, the first with those live links added that pass the first test, and the second with those that pass the second.
+    // In one walk: most numbers are free, and a walk for each side would come to them twice.
+    fn with<S: Fn(&Link) -> bool, E: Fn(&Link) -> bool>(
+        &self,
+        before: u64,
+        after: u64,
+        starts: S,
+        ends: E,
+    ) -> (u64, u64)
+        requires starts { S.IsAlwaysCallable starts }
+        requires ends { E.IsAlwaysCallable ends }
+        ensures starts { (n : ℕ) → (t : Bool) × Tells self.now (FnReturnsAt S.Fn starts) n t × (bit n result.0 ≡ (bit n before || t)) }
+        ensures ends { (n : ℕ) → (t : Bool) × Tells self.now (FnReturnsAt E.Fn ends) n t × (bit n result.1 ≡ (bit n after || t)) }
     {
-        let mut all = set;
+        let mut first = before;
+        let mut second = after;
         for (n, link) in self.links.iter().enumerate() {
-            if matches!(link, Some(link) if passes(link)) {
-                all |= 1 << n;
+            if matches!(link, Some(link) if starts(link)) {
+                first |= 1 << n;
+            }
+            if matches!(link, Some(link) if ends(link)) {
+                second |= 1 << n;
             }
         }
-        all
+        (first, second)
     }
 
     /// The link set of a new block in a list, between a left neighbour that ends with the id `left` and has the link set `before`,
@@ -71,8 +84,12 @@ impl Links {
         // what sticks in the gap right behind `left`, and in the one right before `right`
         let start = left.map_or(Anchor::Open, Anchor::After);
         let end = right.map_or(Anchor::Open, Anchor::Before);
-        let starts = self.with(before, |link| link.list == list && link.start == start);
-        let ends = self.with(after, |link| link.list == list && link.end == end);
+        let (starts, ends) = self.with(
+            before,
+            after,
+            |link| link.list == list && link.start == start,
+            |link| link.list == list && link.end == end,
+        );
         starts & ends
     }
 }

@@ -10,9 +10,9 @@ use Rattle.registry.proofs.links.Links.join.Goals as goal
 pub returns : goal.returns
 returns c = λ n.
     let link = slice_index_or c.args.self.now.links n None in
-    let (s, s_tested, s_bit) = c.with-starts.ensures n in
-    let (e, e_tested, e_bit) = c.with-ends.ensures n in
-    bit-and n c.with-starts.result c.with-ends.result
+    let (s, s_tested, s_bit) = c.with-starts.ensures.starts n in
+    let (e, e_tested, e_bit) = c.with-starts.ensures.ends n in
+    bit-and n c.with-starts.result.0 c.with-starts.result.1
     ∙ ap₂ ◌&&◌
     (s_bit ∙ ap (λ t. bit n c.args.before || t) (tested (λ o. starts_here o c.args.list (option_map plain_id c.args.left)) refl _ link s s_tested (λ k p. search (rules, tests))))
     (e_bit ∙ ap (λ t. bit n c.args.after || t) (tested (λ o. ends_here o c.args.list (option_map plain_id c.args.right)) refl _ link e e_tested (λ k p. search (rules, tests))))
