@@ -71,6 +71,8 @@ impl Links {
 
     /// The link set of a new block in a list, between a left neighbour that ends with the id `left` and has the link set `before`,
     /// and a right one that begins with the id `right` and has the link set `after`; a neighbour that is not there has no id, and no links.
+    // A call of its own: laid into a caller, the walk is short of registers, and each free number takes a third more instructions.
+    #[inline(never)]
     pub fn join(
         &self,
         list: u8,
