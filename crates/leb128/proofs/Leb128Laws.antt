@@ -1,4 +1,5 @@
-use Rattle.std.proofs.Common.{◌≡◌, ℕ, zero, suc, ◌+◌, ◌*◌, ◌/◌, ◌%◌, ◌^◌, ◌<◌, ◌≤◌, true, List, [], ◌∷◌, reverse, length, refl, ◌∙◌, inl, inr, pow-suc, arith}
+use Rattle.std.proofs.Common.{◌≡◌, ℕ, zero, suc, ◌+◌, ◌*◌, ◌/◌, ◌%◌, ◌^◌, ◌<◌, ◌≤◌, true, List, [], ◌∷◌, reverse, length, refl, ap, ◌∙◌, inl, inr, pow-suc, arith}
+use native.Mathlib.Nat.{pow-le-pow_right}
 use Rattle.std.proofs.lemmas.Bool.Decides.{nat_tests}
 use Rattle.std.proofs.lemmas.Bool.{cases_lt}
 use Rattle.std.specs.Int.Digits.{digits_of}
@@ -28,6 +29,13 @@ uleb_step n h = grind (arith, low_step n, low_step (n / 128))
 pub uleb_some : (n : ℕ) → 0 < length (uleb n)
 uleb_some n = elim (cases_lt n 128) [ inl h ↦ grind (arith, uleb_small) | inr h ↦ grind (arith, uleb_step) ]
 
+-- It is the number itself where it is one byte; where it is more, the number goes on.
+pub uleb_last : (n : ℕ) → length (uleb n) ≡ 1 → n < 128
+uleb_last n e = elim (cases_lt n 128) [ inl h ↦ h | inr h ↦ absurd (omega (arith, uleb_some (n / 128), ap length (uleb_step n h))) ]
+
+pub uleb_goes_on : (n : ℕ) → 1 < length (uleb n) → 128 ≤ n
+uleb_goes_on n l = elim (cases_lt n 128) [ inl h ↦ absurd (omega (arith, ap length (uleb_small n h))) | inr h ↦ h ]
+
 pub length-uleb : (k n : ℕ) → n < 128 * 128 ^ k → length (uleb n) ≤ k + 1
 length-uleb zero n h = grind (arith, uleb_small)
 length-uleb (suc k) n h =
@@ -35,6 +43,15 @@ length-uleb (suc k) n h =
       | inl l ↦ grind (arith, uleb_small)
       | inr l ↦ grind (arith, uleb_step, length-uleb k (n / 128), pow-suc)
     ]
+
+-- One byte more for each seven bits more.
+pub length_is : (k n : ℕ) → 128 ^ k ≤ n → n < 128 * 128 ^ k → length (uleb n) ≡ k + 1
+length_is zero n l h = grind (arith, uleb_small)
+length_is (suc k) n l h =
+    let p : 128 ^ suc k ≡ 128 ^ k * 128 = pow-suc 128 k in
+    let z : 0 ≤ k = omega arith in
+    let o : 128 ^ 0 ≤ 128 ^ k = pow-le-pow_right {n = 128} (omega arith) z in
+    grind (arith, uleb_step, length_is k (n / 128))
 
 -- at most ten bytes for 64 bits
 pub uleb_ten : (n : ℕ) → n < 2 ^ 64 → length (uleb n) ≤ 10

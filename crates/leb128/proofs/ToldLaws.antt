@@ -49,8 +49,11 @@ told_from most limit p (b ∷ bs) g m h =
       | inr x ↦ rw (at_large most limit k v b bs x) (p, b, bs, refl, g, m, h, inl (omega arith))
     ]
 
+pub told_within : (most limit : ℕ) (bs : List ℕ) → 0 < most → 0 < limit → Reads most limit bs (reading most limit bs)
+told_within most limit bs m h = told_from most limit [] bs refl m h
+
 pub told : (field : NumberField) (bs : List ℕ) → Reads (max_len field) (limit field) bs (reading (max_len field) (limit field) bs)
-told field bs = told_from (max_len field) (limit field) [] bs refl (field_some field).0 (field_some field).1
+told field bs = told_within (max_len field) (limit field) bs (field_some field).0 (field_some field).1
 
 -- And nothing else is.
 pub only : (most limit : ℕ) (bs : List ℕ) (r : Read) → Reads most limit bs r → reading most limit bs ≡ r

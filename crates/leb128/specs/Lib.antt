@@ -3,4 +3,3 @@ pub mod Fields
 pub mod Leb128
 pub mod Reading
 pub mod Told
-pub mod Writing

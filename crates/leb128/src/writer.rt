@@ -1,62 +1,42 @@
-ghost use Rattle.std.specs.Prelude.{◌≡◌, ◌+◌, ◌<◌, ◌≤◌, ◌++◌, length, drop, MatchResult};
-ghost use Rattle.std.specs.Iterator.{YieldsFirst, item_count};
+ghost use Rattle.std.specs.Prelude.{◌≡◌, ◌+◌, ◌<◌, ◌≤◌, ◌++◌, length, MatchResult};
 ghost use Rattle.leb128.specs.Leb128.{uleb};
 ghost use Rattle.leb128.specs.Buffers.{written};
-ghost use Rattle.leb128.specs.Writing.{bytes_left};
 
 use crate::fault::NoRoom;
 
-/// The bytes of a number's shortest form, the low digit first: what is left to write of the number, if anything.
-#[derive(Drop)]
-struct NumberBytes {
-    rest: Option<u64>,
-}
-
-impl NumberBytes {
-    fn of(value: u64) -> NumberBytes
-        ensures { bytes_left result ≡ uleb value }
-    {
-        NumberBytes { rest: Some(value) }
-    }
-}
-
-impl Iterator for NumberBytes {
-    type Item = u8;
-
-    ghost next_gives = { YieldsFirst bytes_left };
-
-    ghost remaining = { item_count bytes_left };
-
-    #[tactic(auto, using(crate::proofs::Leb128Laws::uleb_small, crate::proofs::Leb128Laws::uleb_step))]
-    fn next(&mut self) -> Option<u8> {
-        let rest = self.rest?;
-        if rest < 128 {
-            self.rest = None;
-            Some(rest as u8)
-        } else {
-            self.rest = Some(rest / 128);
-            Some((rest % 128 + 128) as u8)
-        }
-    }
-}
-
 /// How many bytes the shortest form of a number takes.
-#[tactic(auto, using(crate::proofs::Leb128Laws::uleb_ten))]
 pub fn number_len(value: u64) -> usize
     ensures count { result ≡ length (uleb value) }
     ensures bound { result ≤ 10 }
 {
-    NumberBytes::of(value).count()
+    // By the ranges, since a walk down the number takes a step for each byte.
+    match value {
+        0..=0x7F => 1,
+        0x80..=0x3FFF => 2,
+        0x4000..=0x1F_FFFF => 3,
+        0x20_0000..=0xFFF_FFFF => 4,
+        0x1000_0000..=0x7_FFFF_FFFF => 5,
+        0x8_0000_0000..=0x3FF_FFFF_FFFF => 6,
+        0x400_0000_0000..=0x1_FFFF_FFFF_FFFF => 7,
+        0x2_0000_0000_0000..=0xFF_FFFF_FFFF_FFFF => 8,
+        0x100_0000_0000_0000..=0x7FFF_FFFF_FFFF_FFFF => 9,
+        0x8000_0000_0000_0000..=0xFFFF_FFFF_FFFF_FFFF => 10,
+    }
 }
 
-/// Writes the shortest form of a number to the front of a buffer that holds it.
+/// Writes the shortest form of a number over a part that it fills.
+#[tactic(auto, using(crate::proofs::Leb128Laws::uleb_last))]
 fn put_number(part: &mut [u8], value: u64)
-    requires { length (uleb value) ≤ length part.old }
-    ensures { part.new ≡ uleb value ++ drop (length (uleb value)) part.old }
+    requires { length part.old ≡ length (uleb value) }
+    ensures { part.new ≡ uleb value }
 {
-    // By index, since the proof does not close over `part.iter_mut().zip(..)`: of what such a loop wrote, nothing is known after it.
-    for (i, b) in NumberBytes::of(value).enumerate() {
-        part[i] = b;
+    let mut rest = value;
+    if let Some((last, front)) = part.split_last_mut() {
+        for b in front {
+            *b = (rest % 128 + 128) as u8;
+            rest /= 128;
+        }
+        *last = rest as u8;
     }
 }
 
@@ -69,6 +49,6 @@ pub fn write_number(buf: &mut [u8], at: usize, value: u64) -> Result<usize, NoRo
     if at > buf.len() || buf.len() - at < len {
         return Err(NoRoom);
     }
-    put_number(&mut buf[at..], value);
+    put_number(&mut buf[at..at + len], value);
     Ok(len)
 }
