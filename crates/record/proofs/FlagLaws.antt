@@ -9,7 +9,7 @@ mask_told n (suc zero) w e h l = grind (arith, nat_tests)
 mask_told n (suc (suc q)) w e h l = absurd (omega arith)
 
 -- `byte & 2^k != 0` is the flag of weight 2^k.
-mask_flag : (n k : ℕ) → 0 < 2 ^ k → not (eqb (bit_and n (2 ^ (1 + k) - 2 ^ k)) 0) ≡ has_flag (2 ^ k) n
+pub mask_flag : (n k : ℕ) → 0 < 2 ^ k → not (eqb (bit_and n (2 ^ (1 + k) - 2 ^ k)) 0) ≡ has_flag (2 ^ k) n
 mask_flag n k h = mask_told (bit_and n (2 ^ (1 + k) - 2 ^ k)) (n / 2 ^ k % 2) (2 ^ k) (and_high n 1 k) (omega arith) h
 
 pub mask_flags : (n : ℕ)
