@@ -1,4 +1,4 @@
-use Rattle.std.proofs.Common.{◌≡◌, ◌+◌, ◌%◌, ◌<◌, ◌≤◌, length, append_assoc, ap, arith}
+use Rattle.std.proofs.Common.{◌≡◌, ◌<◌, ◌≤◌, length, append_assoc, ap, arith}
 use Rattle.std.proofs.lemmas.List.{take_more_set, take_all}
 use Rattle.leb128.specs.Leb128.{uleb}
 use Rattle.leb128.proofs.Leb128Laws.{uleb_small, uleb_step, uleb_last, uleb_goes_on}
@@ -10,7 +10,7 @@ loop-b-preserved c =
     let l : 1 < length (uleb c.loop-b.rest) = omega (arith, c.in-Some.ensures.cases) in
     let s = uleb_step c.loop-b.rest (uleb_goes_on c.loop-b.rest l) in
     record {
-      bytes = rw (take_more_set c.loop-b.b-items c.loop-b.b-index (c.loop-b.rest % 128 + 128) h, append_assoc, ← s) c.loop-b.invariant.bytes;
+      bytes = rw (take_more_set, append_assoc) (rw s at c.loop-b.invariant.bytes);
       count = omega (arith, ap length s);
     }
 
