@@ -19,14 +19,15 @@ fn read_front(bytes: &[u8], field: NumberField) -> Result<(u64, usize), NumberCa
     ensures value { result ≡ reading (max_len field) (limit field) bytes.now }
     ensures within { IfOk result (λ p. (p.1 ≤ length bytes.now) × (p.0 < limit field)) }
 {
+    let (most, limit) = (field.max_len(), field.limit());
     let mut value = 0;
     let mut weight = 1;
     for (n, &b) in bytes.iter().enumerate() {
-        value = add_digit(value, weight, b, field.limit()).ok_or(NumberCause::Large)?;
+        value = add_digit(value, weight, b, limit).ok_or(NumberCause::Large)?;
         if b < 128 {
             return Ok((value, n + 1));
         }
-        if n + 1 == field.max_len() {
+        if n + 1 == most {
             return Err(NumberCause::Large);
         }
         weight *= 128;
