@@ -9,9 +9,13 @@ use crate::field::NumberField;
 fn add_digit(value: u64, weight: u64, b: u8, below: u64) -> Option<u64>
     ensures { let sum = value + (b % 128) * weight in result ≡ (if nat_lt sum below then Some sum else None) }
 {
-    let digit = u64::from(b % 128).checked_mul(weight)?;
-    let sum = value.checked_add(digit)?;
-    (sum < below).then_some(sum)
+    // In 128 bits, since `checked_mul` and `checked_add` take twice the instructions.
+    let sum = u128::from(value) + u128::from(b % 128) * u128::from(weight);
+    if sum < u128::from(below) {
+        Some(sum as u64)
+    } else {
+        None
+    }
 }
 
 /// Reads the number that bytes begin with, within what its field allows.
